@@ -1,0 +1,2 @@
+-- The definitions of document 01, in its order.
+pub mod exploration
