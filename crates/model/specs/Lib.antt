@@ -1,2 +1,4 @@
 -- The definitions of document 01, in its order.
+pub mod Bits
+pub mod logic
 pub mod exploration
