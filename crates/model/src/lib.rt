@@ -30,3 +30,33 @@ pub enum Code {
     Two(Binary),
     Unknown,
 }
+
+// A refusal: its number in document 01's table, and its one place.
+pub struct Refusal {
+    pub number: u8,
+    pub place: usize,
+}
+
+// What one check of the table of refusals says.
+pub enum Verdict {
+    Fine,
+    Bad(Refusal),
+}
+
+// What a search gives: the plan's cost and number of actions, or a refusal.
+pub enum Searched {
+    Planned(u64, usize),
+    Refused(Refusal),
+}
+
+// What a read-through gives: the cost and a bit for each hint, or a refusal.
+pub enum Validated {
+    Passed(u64, u8),
+    Refused(Refusal),
+}
+
+// What writing a rule back gives: the number of bytes written, or a refusal.
+pub enum Rewritten {
+    Written(usize),
+    Refused(Refusal),
+}

@@ -1,0 +1,63 @@
+-- The read-through on job bytes and step bytes. Nothing lent to it is written.
+use Prim.Native.Nat.{ℕ}
+use mathlib.Core.Bool.{Bool, true, false}
+use mathlib.Core.List.{List, [], _∷_}
+use lib.ListN.{length, take, getD}
+use lib.Dec.{ltb, leb}
+use Rattle.model.specs.declared.Refusal.{Refusal}
+use Rattle.model.specs.declared.Verdict.{Verdict}
+use Rattle.model.specs.declared.Verdict.the-variants.{Fine, Bad}
+use Rattle.model.specs.declared.Validated.{Validated}
+use Rattle.model.specs.declared.Validated.the-variants.{Passed, Refused}
+use Rattle.model.specs.Bits.{bitsOf}
+use Rattle.model.specs.Verdict.{refusal, unless, orElse, inTurn}
+use Rattle.model.specs.logic.Formula.{Formula, constant}
+use Rattle.model.specs.declared.Constant.the-variants.{True}
+use Rattle.model.specs.logic.Truth.{holds}
+use Rattle.model.specs.job.Job.{Job, Action, actionOf}
+use Rattle.model.specs.job.Layout.{jobOf}
+use Rattle.model.specs.job.Decoding.{jobVerdict}
+use Rattle.model.specs.task.State.{within, applicable}
+use Rattle.model.specs.task.Plan.{stateAfter, worlds, costOf}
+
+module _ (j : Job) (steps : List ℕ) where
+  -- read-through, length: "over 65,535 steps"
+  unfoldable pub lengthVerdict : Verdict
+  unfolding unless
+  lengthVerdict = unless (leb (length steps) 65_535) 6 65_535
+
+  -- read-through, each step: "number A or above"; same step: "not applicable"; both refused at its position
+  unfoldable pub stepVerdict : ℕ → Verdict
+  unfolding orElse unless applicable actionOf stateAfter
+  stepVerdict i =
+      orElse (unless (ltb (getD steps i 0) (length (j .actions))) 6 i)
+      (unless (applicable (actionOf j (getD steps i 0)) (stateAfter j (j .start) (take i steps))) 7 i)
+
+  -- read-through, end: "a goal fact missing"
+  unfoldable pub goalVerdict : Verdict
+  unfolding unless within stateAfter
+  goalVerdict = unless (within (j .goal) (stateAfter j (j .start) steps)) 8 0
+
+  -- after 8: "a rule not met", refused at the "lowest such rule"
+  unfoldable pub constraintVerdict : ℕ → Verdict
+  unfolding unless holds worlds
+  constraintVerdict i = unless (holds (getD (j .constraints) i (constant True)) (worlds j steps)) 9 i
+
+  unfoldable pub stepsVerdict : Verdict
+  unfolding orElse inTurn lengthVerdict stepVerdict goalVerdict constraintVerdict
+  stepsVerdict =
+      orElse lengthVerdict
+      (orElse (inTurn (length steps) stepVerdict) (orElse goalVerdict (inTurn (length (j .constraints)) constraintVerdict)))
+
+  -- "bit i set exactly if the job has a hint i and the worlds meet it"
+  unfoldable pub hintBits : ℕ
+  unfolding bitsOf holds worlds
+  hintBits = bitsOf (λ (φ : Formula). holds φ (worlds j steps)) (j .hints)
+
+-- "A read-through gives the cost and 8 bits"
+unfoldable pub validated : List ℕ → List ℕ → Validated
+unfolding orElse jobVerdict stepsVerdict hintBits costOf jobOf
+validated job steps = elim (orElse (jobVerdict job) (stepsVerdict (jobOf job) steps)) [
+  | Bad r ↦ Refused r
+  | Fine ↦ Passed (costOf (jobOf job) steps) (hintBits (jobOf job) steps)
+]
