@@ -1,0 +1,4 @@
+-- Laws of formulas (specs/logic): truth, progression, normal form, reading.
+pub mod SatLaws
+pub mod PartsLaws
+pub mod ProgressionLaws

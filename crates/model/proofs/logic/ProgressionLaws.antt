@@ -1,0 +1,1 @@
+-- Progression is right: the truth of a formula is that of its residual, at the parts' truth in what follows.
