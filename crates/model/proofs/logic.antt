@@ -2,3 +2,4 @@
 pub mod SatLaws
 pub mod PartsLaws
 pub mod ProgressionLaws
+pub mod ResidualLaws
