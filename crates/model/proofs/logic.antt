@@ -3,3 +3,4 @@ pub mod SatLaws
 pub mod PartsLaws
 pub mod ProgressionLaws
 pub mod ResidualLaws
+pub mod NnfLaws
