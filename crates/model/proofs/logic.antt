@@ -1,0 +1,6 @@
+-- Laws of formulas (specs/logic): truth, progression, normal form, reading.
+pub mod SatLaws
+pub mod PartsLaws
+pub mod ProgressionLaws
+pub mod ResidualLaws
+pub mod NnfLaws

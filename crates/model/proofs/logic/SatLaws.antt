@@ -1,0 +1,1 @@
+-- Definition 1 of source document 003 and truth as a function agree at every position.
