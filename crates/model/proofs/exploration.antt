@@ -1,0 +1,4 @@
+-- The equations of exploration have one solution, `reached` is it, and `solve` answers by it.
+pub mod KeyLaws
+pub mod Laws
+pub mod Uniqueness
