@@ -2,3 +2,7 @@
 pub mod KeyLaws
 pub mod Laws
 pub mod Uniqueness
+pub mod Each
+pub mod Counting
+pub mod Arrivals
+pub mod Gather
