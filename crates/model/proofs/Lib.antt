@@ -1,3 +1,5 @@
 -- What is proved of the definitions in specs/.
 pub mod bits
 pub mod logic
+pub mod exploration
+pub mod job

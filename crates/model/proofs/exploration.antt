@@ -1,0 +1,8 @@
+-- The equations of exploration have one solution, `reached` is it, and `solve` answers by it.
+pub mod KeyLaws
+pub mod Laws
+pub mod Uniqueness
+pub mod Each
+pub mod Counting
+pub mod Arrivals
+pub mod Gather

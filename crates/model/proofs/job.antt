@@ -1,0 +1,2 @@
+-- Jobs: accepted ones are proper, their systems meet the laws of exploration, and the plan found is the best.
+pub mod VerdictLaws
