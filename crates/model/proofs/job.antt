@@ -1,2 +1,3 @@
 -- Jobs: accepted ones are proper, their systems meet the laws of exploration, and the plan found is the best.
 pub mod VerdictLaws
+pub mod Accepted
