@@ -94,3 +94,14 @@ module _ {A : Type 0} (f : ℕ → A) where
   unfolding listOf
   all-listOf P zero h = tt
   all-listOf P (suc n) h = all-append P (listOf f n) (f n ∷ []) (all-listOf P n (λ i l. h i (omega arith))) (h n (omega arith), tt)
+
+-- What holds of all elements holds of each by its number, and the reverse.
+module _ {A : Type 0} (P : A → Type 0) (d : A) where
+  pub all-getD : (xs : List A) → All P xs → (i : ℕ) → i < length xs → P (getD xs i d)
+  all-getD [] h i l = absurd (omega arith)
+  all-getD (x ∷ xs) h zero l = h .0
+  all-getD (x ∷ xs) h (suc i) l = all-getD xs (h .1) i (omega arith)
+
+  pub getD-all : (xs : List A) → ((i : ℕ) → i < length xs → P (getD xs i d)) → All P xs
+  getD-all [] h = tt
+  getD-all (x ∷ xs) h = (h 0 (omega arith), getD-all xs (λ i l. h (suc i) (omega arith)))
