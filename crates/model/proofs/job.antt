@@ -3,3 +3,7 @@ pub mod VerdictLaws
 pub mod Accepted
 pub mod PlanLaws
 pub mod ReadThrough
+pub mod NodeLaws
+pub mod ResidualLists
+pub mod SystemLaws
+pub mod FiniteNodes
