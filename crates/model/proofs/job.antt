@@ -7,3 +7,5 @@ pub mod NodeLaws
 pub mod ResidualLists
 pub mod SystemLaws
 pub mod FiniteNodes
+pub mod ResidualsHold
+pub mod HintMeaning
