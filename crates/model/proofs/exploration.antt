@@ -6,3 +6,4 @@ pub mod Each
 pub mod Counting
 pub mod Arrivals
 pub mod Gather
+pub mod Invariant

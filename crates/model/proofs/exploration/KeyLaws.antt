@@ -24,8 +24,8 @@ le-trans i j k p q = (omega arith, λ e. omega (arith, p .1 (omega arith), q .1 
 pub lt-le : (j k : Key) → Lt j k → Le j k
 lt-le j k h = (omega arith, λ e. omega (arith, h .1 e))
 
-pub lt-le-trans : (i j k : Key) → Lt i j → Le j k → Lt i k
-lt-le-trans i j k p q = (omega arith, λ e. omega (arith, p .1 (omega arith), q .1 (omega arith)))
+pub le-lt-trans : (i j k : Key) → Le i j → Lt j k → Lt i k
+le-lt-trans i j k p q = (omega arith, λ e. omega (arith, p .1 (omega arith), q .1 (omega arith)))
 
 -- Of two keys not each is below the other.
 pub not-below : (j k : Key) → Lt j k → Le k j → ⊥
