@@ -7,3 +7,5 @@ pub mod Counting
 pub mod Arrivals
 pub mod Gather
 pub mod Invariant
+pub mod Fuel
+pub mod Solves
