@@ -9,3 +9,4 @@ pub mod Gather
 pub mod Invariant
 pub mod Fuel
 pub mod Solves
+pub mod Runs
