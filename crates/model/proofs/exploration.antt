@@ -10,3 +10,5 @@ pub mod Invariant
 pub mod Fuel
 pub mod Solves
 pub mod Runs
+pub mod Paths
+pub mod FirstPaths
