@@ -12,3 +12,4 @@ pub mod Solves
 pub mod Runs
 pub mod Paths
 pub mod FirstPaths
+pub mod Best

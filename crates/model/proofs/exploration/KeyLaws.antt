@@ -62,12 +62,12 @@ extend-not-zero k c e = let s : suc (k .steps) ≡ 0 = ap (λ (x : Key). x .step
 
 -- ---- the tests of keys
 
-pub less-yes : (j k : Key) → less j k ≡ true → Le j k
+pub less-yes : (j k : Key) → less j k ≡ true → Lt j k
 unfolding less
 less-yes j k h = go (ltb (j .cost) (k .cost)) (eqb (j .cost) (k .cost)) refl refl h
   where
     go : (a b : Bool) → ltb (j .cost) (k .cost) ≡ a → eqb (j .cost) (k .cost) ≡ b
-        → (elim a as (λ x. Bool) [ true ↦ true | false ↦ elim b [ true ↦ ltb (j .steps) (k .steps) | false ↦ false ] ]) ≡ true → Le j k
+        → (elim a as (λ x. Bool) [ true ↦ true | false ↦ elim b [ true ↦ ltb (j .steps) (k .steps) | false ↦ false ] ]) ≡ true → Lt j k
     go true b p q h′ = omega (arith, ltb-true)
     go false true p q h′ = omega (arith, eqb-true, ltb-true)
     go false false p q h′ = absurd (true≢false (sym h′))
