@@ -6,3 +6,10 @@ pub mod Each
 pub mod Counting
 pub mod Arrivals
 pub mod Gather
+pub mod Invariant
+pub mod Fuel
+pub mod Solves
+pub mod Runs
+pub mod Paths
+pub mod FirstPaths
+pub mod Best

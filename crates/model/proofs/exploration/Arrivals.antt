@@ -10,7 +10,7 @@ use mathlib.Core.Logic.{_⊎_, inl, inr}
 use Rattle.model.specs.exploration.Key.{Key, extend, Le, less}
 use Rattle.model.specs.exploration.System.{System}
 use Rattle.model.specs.exploration.Explore.{Entry, isCut, arrival, moves, arrivals, known, fresh, least}
-use Rattle.model.proofs.exploration.KeyLaws.{le-refl, le-trans, less-yes, less-no}
+use Rattle.model.proofs.exploration.KeyLaws.{le-refl, le-trans, lt-le, less-yes, less-no}
 use Rattle.model.proofs.exploration.Laws.{Laws}
 use Rattle.model.proofs.exploration.Each.{All, all-append, all-left, all-right}
 
@@ -141,5 +141,5 @@ module _ (S : System) where
     where
       go : (a : Bool) → less (y .key) (x .key) ≡ a → All (λ z. Le (least S x ys .key) (z .key)) (x ∷ ys) → All (λ z. Le (least S y ys .key) (z .key)) (y ∷ ys)
           → All (λ z. Le (least S x (y ∷ ys) .key) (z .key)) (x ∷ y ∷ ys)
-      go true e s t = rw (e, least) (le-trans _ _ _ (t .0) (less-yes _ _ e), t)
+      go true e s t = rw (e, least) (le-trans _ _ _ (t .0) (lt-le _ _ (less-yes _ _ e)), t)
       go false e s t = rw (e, least) (s .0, (le-trans _ _ _ (s .0) (less-no _ _ e), s .1))

@@ -24,8 +24,8 @@ le-trans i j k p q = (omega arith, λ e. omega (arith, p .1 (omega arith), q .1 
 pub lt-le : (j k : Key) → Lt j k → Le j k
 lt-le j k h = (omega arith, λ e. omega (arith, h .1 e))
 
-pub lt-le-trans : (i j k : Key) → Lt i j → Le j k → Lt i k
-lt-le-trans i j k p q = (omega arith, λ e. omega (arith, p .1 (omega arith), q .1 (omega arith)))
+pub le-lt-trans : (i j k : Key) → Le i j → Lt j k → Lt i k
+le-lt-trans i j k p q = (omega arith, λ e. omega (arith, p .1 (omega arith), q .1 (omega arith)))
 
 -- Of two keys not each is below the other.
 pub not-below : (j k : Key) → Lt j k → Le k j → ⊥
@@ -62,12 +62,12 @@ extend-not-zero k c e = let s : suc (k .steps) ≡ 0 = ap (λ (x : Key). x .step
 
 -- ---- the tests of keys
 
-pub less-yes : (j k : Key) → less j k ≡ true → Le j k
+pub less-yes : (j k : Key) → less j k ≡ true → Lt j k
 unfolding less
 less-yes j k h = go (ltb (j .cost) (k .cost)) (eqb (j .cost) (k .cost)) refl refl h
   where
     go : (a b : Bool) → ltb (j .cost) (k .cost) ≡ a → eqb (j .cost) (k .cost) ≡ b
-        → (elim a as (λ x. Bool) [ true ↦ true | false ↦ elim b [ true ↦ ltb (j .steps) (k .steps) | false ↦ false ] ]) ≡ true → Le j k
+        → (elim a as (λ x. Bool) [ true ↦ true | false ↦ elim b [ true ↦ ltb (j .steps) (k .steps) | false ↦ false ] ]) ≡ true → Lt j k
     go true b p q h′ = omega (arith, ltb-true)
     go false true p q h′ = omega (arith, eqb-true, ltb-true)
     go false false p q h′ = absurd (true≢false (sym h′))
