@@ -9,3 +9,4 @@ pub mod SystemLaws
 pub mod FiniteNodes
 pub mod ResidualsHold
 pub mod HintMeaning
+pub mod PlansAsRuns
