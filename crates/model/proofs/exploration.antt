@@ -13,3 +13,4 @@ pub mod Runs
 pub mod Paths
 pub mod FirstPaths
 pub mod Best
+pub mod Answered
