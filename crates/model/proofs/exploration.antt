@@ -14,3 +14,4 @@ pub mod Paths
 pub mod FirstPaths
 pub mod Best
 pub mod Answered
+pub mod Optimality
