@@ -13,3 +13,5 @@ pub mod Runs
 pub mod Paths
 pub mod FirstPaths
 pub mod Best
+pub mod Answered
+pub mod Optimality

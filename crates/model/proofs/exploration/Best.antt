@@ -115,8 +115,8 @@ module _ (S : System) where
           let f : First S (e .path) (y .path) = (all-at _ M (u .1 .1) (best .2) (goal-entry u g)) .1 (sym (u .1 .3)) in
           first-trans S _ _ _ f (firsts y (u .1 .1) q (path-cast S refl (sym (u .1 .2)) (sym (u .1 .3)) r))
 
-      best-plan : Plan S (Of S M) (e .key .cost) (e .path)
-      best-plan = record {
+      plan-of-best : Plan S (Of S M) (e .key .cost) (e .path)
+      plan-of-best = record {
         node = e .node;
         key = e .key;
         costIs = refl;
@@ -132,7 +132,7 @@ module _ (S : System) where
     answer-answers = go (bestGoal S M) (someCut S M) refl refl (best-goal M (all-mem _ M (λ y m g. sym (path-steps S (paths y m (g .1))))))
       where
         go : (o : Option (Entry S)) (b : Bool) → bestGoal S M ≡ o → someCut S M ≡ b → BestOf M (bestGoal S M) → Answers S (Of S M) (answer S M)
-        go (some e) b p q k = rw (p, answer) (with-plan (best-plan e (rw p at k)))
+        go (some e) b p q k = rw (p, answer) (with-plan (plan-of-best e (rw p at k)))
         go none b p q k = no-goal b q (rw p at k)
           where
             no-goal : (b : Bool) → someCut S M ≡ b → All (λ y. AtGoal y → ⊥) M → Answers S (Of S M) (answer S M)

@@ -10,9 +10,9 @@ use Rattle.model.specs.exploration.Equations.{Bound, up-to, unbounded, W
 use Rattle.model.proofs.exploration.KeyLaws.{le-trans, lt-le, le-antisym, lt-or-le, extend-lt, extend-not-zero, key-ind}
 use Rattle.model.proofs.exploration.Laws.{Laws}
 
--- A key below one within the bound is within the bound.
-pub within-below : (B : Bound) (j k : Key) → Lt j k → Within B k → Within B j
-within-below (up-to b) j k l w = le-trans j k b (lt-le j k l) w
+-- A key up to one within the bound is within the bound.
+pub within-below : (B : Bound) (j k : Key) → Le j k → Within B k → Within B j
+within-below (up-to b) j k l w = le-trans j k b l w
 within-below unbounded j k l w = tt
 
 -- Tests that are true together are equal.
@@ -85,7 +85,7 @@ module _ (S : System) where
 
     agree : (L M : Entries S) → Explores S B L → Explores S B M → (k : Key) → Agree L M k
     agree L M x y = key-ind (Agree L M) (λ k ih w n h.
-      let below : (j : Key) → Lt j k → (m : S .Node) (g : S .Hints) → (L m j g → M m j g) × (M m j g → L m j g) = λ j lt. ih j lt (within-below B j k lt w) in
+      let below : (j : Key) → Lt j k → (m : S .Node) (g : S .Hints) → (L m j g → M m j g) × (M m j g → L m j g) = λ j lt. ih j lt (within-below B j k (lt-le j k lt) w) in
       (half L M x y k below w n h, half M L y x k (λ j lt m g. ((below j lt m g) .1, (below j lt m g) .0)) w n h))
 
     -- Two solutions up to the same key have the same entries up to it.
