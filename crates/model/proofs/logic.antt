@@ -1,4 +1,5 @@
 -- Laws of formulas (specs/logic): truth, progression, normal form, reading.
+pub mod TruthLaws
 pub mod SatLaws
 pub mod PartsLaws
 pub mod ProgressionLaws
