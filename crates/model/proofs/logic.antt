@@ -5,3 +5,4 @@ pub mod PartsLaws
 pub mod ProgressionLaws
 pub mod ResidualLaws
 pub mod NnfLaws
+pub mod ReadingLaws
