@@ -5,4 +5,5 @@ pub mod PartsLaws
 pub mod ProgressionLaws
 pub mod ResidualLaws
 pub mod NnfLaws
+pub mod Codes
 pub mod ReadingLaws
