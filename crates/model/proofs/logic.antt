@@ -7,3 +7,4 @@ pub mod ResidualLaws
 pub mod NnfLaws
 pub mod Codes
 pub mod ReadingLaws
+pub mod EncodingLaws

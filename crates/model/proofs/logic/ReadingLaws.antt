@@ -5,13 +5,13 @@ use mathlib.Core.List.{List}
 use Prim.Native.Nat.{ℕ, zero, suc, _+_, _-_, _<_, _≤_}
 use native.Mathlib.Omega.{arith}
 use lib.ListN.{length, getD}
-use lib.Dec.{ltb}
-use borrow.Author.Tests.{lt-ltb, le-ltb, ltb-true}
+use lib.Dec.{ltb, eqb}
+use borrow.Author.Tests.{lt-ltb, le-ltb, ltb-true, eq-eqb, eqb-true}
 use Rattle.model.specs.declared.Code.{Code}
 use Rattle.model.specs.declared.Code.the-variants.{Leaf, Fact, Action, One, Two, Unknown}
 use Rattle.model.specs.logic.Formula.{Formula, constant, fact, action, unary, binary, choose, codeOf, byte0, byte1, byte2}
 use Rattle.model.specs.logic.Parts.{size}
-use Rattle.model.specs.logic.Reading.{Parsed, formula, wrong, then, andThen, numbered, operands, node, parse, parsed}
+use Rattle.model.specs.logic.Reading.{Parsed, formula, wrong, then, andThen, numbered, operands, node, parse, parsed, whole, section}
 use Rattle.model.proofs.logic.Codes.{Byte, code-byte, code0, code1, code2}
 
 -- ---- what a reading that succeeds was made of
@@ -202,6 +202,25 @@ module _ (v a : ℕ) (s : List ℕ) where
 
   pub parsed-inside : (at : ℕ) (φ : Formula) (n : ℕ) → parsed v a s at ≡ formula φ n → n ≤ length s
   parsed-inside at φ n e = omega (arith, parsed-size at φ n e, stands-inside φ at (parsed-stands at φ n e))
+
+  -- ---- a whole section
+  whole-from : (p : Parsed) (φ : Formula) (n : ℕ) → whole v a s p ≡ formula φ n → (p ≡ formula φ n) × (n ≡ length s)
+  unfolding whole
+  whole-from (formula ψ m) φ n e = go (eqb m (length s)) refl e
+    where
+      go : (t : Bool) → eqb m (length s) ≡ t → choose t (formula ψ m) (wrong m) ≡ formula φ n → (formula ψ m ≡ formula φ n) × (n ≡ length s)
+      go true d e = let g : m ≡ n = cc in (e, omega (arith, eqb-true m (length s) d))
+      go false d e = apart m φ n e
+  whole-from (wrong p) φ n e = apart p φ n e
+
+  -- a section holds a formula if it is read from the first byte to the last
+  pub section-from : (φ : Formula) (n : ℕ) → section v a s ≡ formula φ n → (parsed v a s 0 ≡ formula φ n) × (n ≡ length s)
+  unfolding section
+  section-from φ n e = whole-from (parsed v a s 0) φ n e
+
+  pub section-is : (φ : Formula) (n : ℕ) → parsed v a s 0 ≡ formula φ n → n ≡ length s → section v a s ≡ formula φ n
+  unfolding section whole
+  section-is φ n e l = ap (whole v a s) e ∙ rw (eq-eqb n (length s) l)
 
 -- with more facts and actions, no less is read
 module _ (v a v′ a′ : ℕ) (s : List ℕ) (hv : v ≤ v′) (ha : a ≤ a′) where
