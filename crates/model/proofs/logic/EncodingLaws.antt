@@ -2,21 +2,19 @@
 use mathlib.Core.Path.{_≡_, refl, sym, ap, ap₂, _∙_, subst}
 use mathlib.Core.Bool.{Bool, true, false}
 use mathlib.Core.List.{List, [], _∷_, _++_, append-nil}
-use Prim.Native.Nat.{ℕ, suc, _+_, _<_, _≤_}
+use Prim.Native.Nat.{ℕ, _+_, _<_, _≤_}
 use native.Mathlib.Nat.{zero-add, add-zero}
 use native.Mathlib.Numerals.{add-one}
 use native.Mathlib.Omega.{arith}
 use native.Mathlib.Decide.{decLt}
 use lib.ListN.{length, getD, take, drop, length-append, drop-of-length-le}
 use lib.Seq.{drop-cons, drop-append-seam, getD-drop, drop-drop, take-all}
-use lib.Dec.{eqb}
-use borrow.Author.Tests.{eqb-true, eq-eqb}
 use Rattle.model.specs.declared.Constant.the-variants.{False, True, Last}
 use Rattle.model.specs.declared.Unary.the-variants.{Not, Next, Eventually, Always}
 use Rattle.model.specs.declared.Binary.the-variants.{And, Or, Until, Release}
-use Rattle.model.specs.logic.Formula.{Formula, constant, fact, action, unary, binary, choose, encode}
+use Rattle.model.specs.logic.Formula.{Formula, constant, fact, action, unary, binary, encode}
 use Rattle.model.specs.logic.Parts.{size}
-use Rattle.model.specs.logic.Reading.{Parsed, formula, wrong, parsed, whole, section}
+use Rattle.model.specs.logic.Reading.{formula, parsed, section}
 use Rattle.model.specs.logic.NormalForm.{nnf}
 use Rattle.model.proofs.logic.ReadingLaws.{Stands, parsed-stands, stands-parsed, parsed-size, section-from, section-is}
 
@@ -126,7 +124,7 @@ module _ (v a : ℕ) (s : List ℕ) where
     h .1,
     bytes-stand φ (at + 1) (f .0) (bytes-left s (encode φ) (encode ψ) (at + 1) (h .2)),
     bytes-stand ψ (at + 1 + size φ) (f .1)
-      (subst (λ (m : ℕ). Bytes s (at + 1 + m) (encode ψ)) (length-encode φ) (bytes-right s (encode φ) (encode ψ) (at + 1) (h .2))),
+        (subst (λ (m : ℕ). Bytes s (at + 1 + m) (encode ψ)) (length-encode φ) (bytes-right s (encode φ) (encode ψ) (at + 1) (h .2))),
   )
 
   -- and its bytes where it does
@@ -140,7 +138,7 @@ module _ (v a : ℕ) (s : List ℕ) where
     h .0,
     h .1,
     bytes-append s (encode φ) (encode ψ) (at + 1) (stands-bytes φ (at + 1) (h .2))
-      (subst (λ (m : ℕ). Bytes s (at + 1 + m) (encode ψ)) (sym (length-encode φ)) (stands-bytes ψ (at + 1 + size φ) (h .3))),
+        (subst (λ (m : ℕ). Bytes s (at + 1 + m) (encode ψ)) (sym (length-encode φ)) (stands-bytes ψ (at + 1 + size φ) (h .3))),
   )
 
   -- what was read is the encoding of what came out

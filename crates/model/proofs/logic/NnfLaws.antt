@@ -2,8 +2,8 @@
 use mathlib.Core.Path.{_≡_, refl, sym, ap, ap₂, _∙_}
 use Prim.Native.Nat.{ℕ, _+_, _≤_}
 use native.Mathlib.Omega.{arith}
-use mathlib.Core.Bool.{Bool, true, false, not, _&&_, _||_, Bool·not-not}
-use mathlib.Core.List.{List, [], _∷_}
+use mathlib.Core.Bool.{Bool, true, false, not, _&&_, _||_, Bool·not-not, false≢true}
+use mathlib.Core.List.{List, _∷_}
 use lib.Dec.{T}
 use Rattle.model.specs.declared.Constant.the-variants.{False, True, Last}
 use Rattle.model.specs.declared.Unary.the-variants.{Not, Next, Eventually, Always}
@@ -82,17 +82,17 @@ and-left false b e = e
 
 and-right : (a b : Bool) → a && b ≡ true → b ≡ true
 and-right true b e = e
-and-right false b e = let z : _≡_ {A = ℕ} 0 1 = cc in absurd (omega arith)
+and-right false b e = absurd (false≢true e)
 
 keeps-literal : (φ : Formula) → isLiteral φ ≡ true → nnf φ false ≡ unary Not φ
 unfolding nnf
-keeps-literal (constant False) e = let z : _≡_ {A = ℕ} 0 1 = cc in absurd (omega arith)
-keeps-literal (constant True) e = let z : _≡_ {A = ℕ} 0 1 = cc in absurd (omega arith)
+keeps-literal (constant False) e = absurd (false≢true e)
+keeps-literal (constant True) e = absurd (false≢true e)
 keeps-literal (constant Last) e = refl
 keeps-literal (fact i) e = refl
 keeps-literal (action a) e = refl
-keeps-literal (unary o φ) e = let z : _≡_ {A = ℕ} 0 1 = cc in absurd (omega arith)
-keeps-literal (binary o φ ψ) e = let z : _≡_ {A = ℕ} 0 1 = cc in absurd (omega arith)
+keeps-literal (unary o φ) e = absurd (false≢true e)
+keeps-literal (binary o φ ψ) e = absurd (false≢true e)
 
 -- "no other change is made": what is positive stays as it is
 pub nnf-keeps : (φ : Formula) → positive φ ≡ true → nnf φ true ≡ φ

@@ -37,8 +37,8 @@ size-pos (action k) = omega arith
 size-pos (unary o φ) = omega arith
 size-pos (binary o φ ψ) = omega arith
 
--- a formula's bytes stand at a position, with its numbers below v and a
 module _ (v a : ℕ) (s : List ℕ) where
+  -- a formula stands at a position: its bytes are there, and its numbers are below v and a
   abbrev pub Stands : Formula → ℕ → Type 0
   Stands (constant c) at = (at < length s) × (getD s at 0 ≡ byte0 c)
   Stands (fact i) at = (at < length s) × (getD s at 0 ≡ 0x03) × (at + 1 < length s) × (getD s (at + 1) 0 ≡ i) × (i < v)
@@ -146,20 +146,21 @@ module _ (v a : ℕ) (s : List ℕ) where
   parsed-is at =
       enough (length s - at) (suc (length s - at)) at (omega arith) (omega arith)
       ∙ node-same (parse v a s (length s - at)) (parsed v a s) (parse-grows (length s - at)) at
-        (λ i m l. enough (length s - at) (length s - m) m (omega arith) (omega arith))
+      (λ i m l. enough (length s - at) (length s - m) m (omega arith) (omega arith))
 
   -- at the end of the bytes nothing is read
   pub at-the-end : (at : ℕ) → length s ≤ at → parsed v a s at ≡ wrong (length s)
   at-the-end at h = parsed-is at ∙ node-end (parsed v a s) at h
 
-  -- what stands at a position is read by its code
+  -- at a byte of a code, what follows is read by that code
   pub by-code : (at : ℕ) (c : Code) → at < length s → codeOf (getD s at 0) ≡ c → parsed v a s at ≡ operands v a s c (parsed v a s) at
   unfolding node
   by-code at c h e =
       parsed-is at ∙ ap (λ (t : Bool). choose t (operands v a s (codeOf (getD s at 0)) (parsed v a s) at) (wrong (length s))) (lt-ltb at (length s) h)
       ∙ ap (λ (d : Code). operands v a s d (parsed v a s) at) e
 
-  -- ---- what was read stands there, and what stands there is read
+  -- ---- what was read, and what is read
+  -- what was read at a position stands there
   pub parsed-stands : (at : ℕ) (φ : Formula) (n : ℕ) → parsed v a s at ≡ formula φ n → Stands φ at
   unfolding parsed
   parsed-stands at φ n e = parse-read (length s - at) at φ n e .0
@@ -169,6 +170,7 @@ module _ (v a : ℕ) (s : List ℕ) where
   unfolding parsed
   parsed-size at φ n e = parse-read (length s - at) at φ n e .1
 
+  -- a formula ends behind the position where it starts
   pub parsed-grows : (at : ℕ) (φ : Formula) (n : ℕ) → parsed v a s at ≡ formula φ n → at < n
   parsed-grows at φ n e = omega (arith, parsed-size at φ n e, size-pos φ)
 
@@ -176,6 +178,7 @@ module _ (v a : ℕ) (s : List ℕ) where
   unfolding numbered
   numbered-is f b at i l e h = rw (e, lt-ltb at (length s) l, lt-ltb i b h)
 
+  -- what stands at a position is read there
   pub stands-parsed : (φ : Formula) (at : ℕ) → Stands φ at → parsed v a s at ≡ formula φ (at + size φ)
   unfolding operands size then andThen codeOf
   stands-parsed (constant c) at h = by-code at (Leaf c) (h .0) (ap codeOf (h .1) ∙ code0 c)
@@ -200,6 +203,7 @@ module _ (v a : ℕ) (s : List ℕ) where
   stands-inside (unary o φ) at h = omega (arith, stands-inside φ (at + 1) (h .2))
   stands-inside (binary o φ ψ) at h = omega (arith, stands-inside ψ (at + 1 + size φ) (h .3))
 
+  -- what was read does not reach past the end of the bytes
   pub parsed-inside : (at : ℕ) (φ : Formula) (n : ℕ) → parsed v a s at ≡ formula φ n → n ≤ length s
   parsed-inside at φ n e = omega (arith, parsed-size at φ n e, stands-inside φ at (parsed-stands at φ n e))
 
@@ -213,16 +217,17 @@ module _ (v a : ℕ) (s : List ℕ) where
       go false d e = apart m φ n e
   whole-from (wrong p) φ n e = apart p φ n e
 
-  -- a section holds a formula if it is read from the first byte to the last
+  -- a section holds a formula that is read from the first byte to the last
   pub section-from : (φ : Formula) (n : ℕ) → section v a s ≡ formula φ n → (parsed v a s 0 ≡ formula φ n) × (n ≡ length s)
   unfolding section
   section-from φ n e = whole-from (parsed v a s 0) φ n e
 
+  -- and a formula that is read so is what the section holds
   pub section-is : (φ : Formula) (n : ℕ) → parsed v a s 0 ≡ formula φ n → n ≡ length s → section v a s ≡ formula φ n
   unfolding section whole
   section-is φ n e l = ap (whole v a s) e ∙ rw (eq-eqb n (length s) l)
 
--- with more facts and actions, no less is read
+-- with more facts and actions
 module _ (v a v′ a′ : ℕ) (s : List ℕ) (hv : v ≤ v′) (ha : a ≤ a′) where
   stands-wider : (φ : Formula) (at : ℕ) → Stands v a s φ at → Stands v′ a′ s φ at
   stands-wider (constant c) at h = h
@@ -231,6 +236,7 @@ module _ (v a v′ a′ : ℕ) (s : List ℕ) (hv : v ≤ v′) (ha : a ≤ a′
   stands-wider (unary o φ) at h = (h .0, h .1, stands-wider φ (at + 1) (h .2))
   stands-wider (binary o φ ψ) at h = (h .0, h .1, stands-wider φ (at + 1) (h .2), stands-wider ψ (at + 1 + size φ) (h .3))
 
+  -- what is read with fewer facts and actions is read with more
   pub parsed-wider : (at : ℕ) (φ : Formula) (n : ℕ) → parsed v a s at ≡ formula φ n → parsed v′ a′ s at ≡ formula φ n
   parsed-wider at φ n e =
       stands-parsed v′ a′ s φ at (stands-wider φ at (parsed-stands v a s at φ n e)) ∙ ap (formula φ) (sym (parsed-size v a s at φ n e))

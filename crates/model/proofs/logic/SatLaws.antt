@@ -4,9 +4,9 @@ use mathlib.Core.Logic.{_↔_}
 use Prim.Native.Nat.{ℕ, zero, suc, _+_, _-_, _≤_, _<_}
 use native.Mathlib.Omega.{arith}
 use native.Mathlib.Decide.{decLt}
-use mathlib.Core.Bool.{Bool, true, false, not, _&&_, _||_, or-true}
+use mathlib.Core.Bool.{Bool, true, false, not, _&&_, _||_, or-true, false≢true}
 use mathlib.Core.Option.{none}
-use mathlib.Core.List.{List, [], _∷_}
+use mathlib.Core.List.{List, _∷_}
 use lib.ListN.{length, getD, drop, drop-of-length-le}
 use lib.Seq.{drop-cons}
 use Rattle.model.specs.declared.Constant.the-variants.{False, True, Last}
@@ -22,14 +22,11 @@ abbrev noWorld : World
 noWorld = record { state = 0; made = none }
 
 -- ---- statements and tests
-never : {A : Type 0} → false ≡ true → A
-never e = let z : _≡_ {A = ℕ} 0 1 = cc in absurd (omega arith)
-
 module _ {A : Type 0} where
   -- if a test decides A, the negated test decides its denial
   not-iff : (b : Bool) → A ↔ (b ≡ true) → (A → ⊥) ↔ (not b ≡ true)
-  not-iff true h = (λ f. absurd (f (h .1 refl)), λ e a. never e)
-  not-iff false h = (λ f. refl, λ e a. never (h .0 a))
+  not-iff true h = (λ f. absurd (f (h .1 refl)), λ e a. absurd (false≢true e))
+  not-iff false h = (λ f. refl, λ e a. absurd (false≢true (h .0 a)))
 
   iff-test : (b c : Bool) → c ≡ b → A ↔ (b ≡ true) → A ↔ (c ≡ true)
   iff-test b c e h = (λ a. e ∙ h .0 a, λ d. h .1 (sym e ∙ d))
@@ -37,12 +34,12 @@ module _ {A : Type 0} where
 module _ {A B : Type 0} where
   and-iff : (a b : Bool) → A ↔ (a ≡ true) → B ↔ (b ≡ true) → (A × B) ↔ (a && b ≡ true)
   and-iff true b h k = (λ p. k .0 (p .1), λ e. (h .1 refl, k .1 e))
-  and-iff false b h k = (λ p. h .0 (p .0), λ e. never e)
+  and-iff false b h k = (λ p. h .0 (p .0), λ e. absurd (false≢true e))
 
   or-iff : (a b : Bool) → A ↔ (a ≡ true) → B ↔ (b ≡ true) → ((A → ⊥) × (B → ⊥) → ⊥) ↔ (a || b ≡ true)
   or-iff true b h k = (λ f. refl, λ e p. p .0 (h .1 refl))
   or-iff false true h k = (λ f. refl, λ e p. p .1 (k .1 refl))
-  or-iff false false h k = (λ f. absurd (f (λ a. never (h .0 a), λ b. never (k .0 b))), λ e. never e)
+  or-iff false false h k = (λ f. absurd (f (λ a. absurd (false≢true (h .0 a)), λ b. absurd (false≢true (k .0 b)))), λ e. absurd (false≢true e))
 
 module _ (w : List World) where
   -- a statement about positions is a test of what follows from there
@@ -78,7 +75,7 @@ module _ (w : List World) where
       where
         go : Dec (suc i < length w) → ((suc i < length w) × P (suc i)) ↔ (onNext p (drop i w) ≡ true)
         go (yes g) = (λ x. on-next i g ∙ h (suc i) g .0 (x .1), λ e. (g, h (suc i) g .1 (sym (on-next i g) ∙ e)))
-        go (no g) = (λ x. absurd (g (x .0)), λ e. never (sym (no-next i l (omega arith)) ∙ e))
+        go (no g) = (λ x. absurd (g (x .0)), λ e. absurd (false≢true (sym (no-next i l (omega arith)) ∙ e)))
 
   -- ---- until
   module _ (P Q : ℕ → Type 0) (p q : Test) (hp : Means P p) (hq : Means Q q) where
@@ -100,7 +97,7 @@ module _ (w : List World) where
     until-found (suc d) i j e l y f =
         until-step i (omega arith)
         ∙ ap₂ (λ (b c : Bool). q (drop i w) || (b && c)) (hp i (omega arith) .0 (f i (omega arith) (omega arith)))
-          (until-found d (suc i) j (omega arith) l y (λ k g m. f k (omega arith) m))
+        (until-found d (suc i) j (omega arith) l y (λ k g m. f k (omega arith) m))
         ∙ or-true (q (drop i w))
 
     -- P here and an until from the next position on make an until from here
@@ -113,17 +110,18 @@ module _ (w : List World) where
 
     -- where the test finds something, at most n positions on, Q holds there and P before
     until-where : (n i : ℕ) → length w ≤ i + n → someUntil p q (drop i w) ≡ true → UntilAt w P Q i
-    until-where zero i g e = never (sym (past-end i (omega arith)) ∙ e)
+    until-where zero i g e = absurd (false≢true (sym (past-end i (omega arith)) ∙ e))
     until-where (suc n) i g e = go (decLt i (length w)) (until-where n (suc i) (omega arith))
       where
         found : (l : i < length w) (a b c : Bool) → q (drop i w) ≡ a → p (drop i w) ≡ b → someUntil p q (drop (suc i) w) ≡ c → a || (b && c) ≡ true
             → (someUntil p q (drop (suc i) w) ≡ true → UntilAt w P Q (suc i)) → UntilAt w P Q i
         found l true b c ea eb ec t ih = (i, omega arith, l, hq i l .1 ea, λ k a b. absurd (omega arith))
         found l false true c ea eb ec t ih = until-later i (hp i l .1 eb) (ih (ec ∙ t))
-        found l false false c ea eb ec t ih = never t
+        found l false false c ea eb ec t ih = absurd (false≢true t)
+
         go : Dec (i < length w) → (someUntil p q (drop (suc i) w) ≡ true → UntilAt w P Q (suc i)) → UntilAt w P Q i
         go (yes l) ih = found l (q (drop i w)) (p (drop i w)) (someUntil p q (drop (suc i) w)) refl refl refl (sym (until-step i l) ∙ e) ih
-        go (no l) ih = never (sym (past-end i (omega arith)) ∙ e)
+        go (no l) ih = absurd (false≢true (sym (past-end i (omega arith)) ∙ e))
 
     means-until : Means (UntilAt w P Q) (someUntil p q)
     means-until i l = (λ u. until-found (u .0 - i) i (u .0) (omega arith) (u .2) (u .3) (u .4), until-where (length w) i (omega arith))
@@ -139,7 +137,7 @@ module _ (w : List World) where
   -- w, i satisfies a formula by definition 1 where the formula holds from world i on
   pub sat-holds : (φ : Formula) (i : ℕ) → i < length w → Sat w i φ ↔ (holds φ (drop i w) ≡ true)
   unfolding Sat holds
-  sat-holds (constant False) i l = (λ f. absurd f, λ e. never e)
+  sat-holds (constant False) i l = (λ f. absurd f, λ e. absurd (false≢true e))
   sat-holds (constant True) i l = means-unit i l
   sat-holds (constant Last) i l = iff-test _ _ (last-at i l) (not-iff _ (means-next (λ k. Unit {0}) (λ r. true) means-unit i l))
   sat-holds (fact f) i l = means-first (λ v. bit (v .state) f) i l
@@ -157,4 +155,4 @@ module _ (w : List World) where
   sat-holds (binary Release φ ψ) i l =
       iff-test _ _ (release-is (holds φ) (holds ψ) (drop i w))
       (not-iff _ (means-until (λ k. Sat w k φ → ⊥) (λ k. Sat w k ψ → ⊥) (λ r. not (holds φ r)) (λ r. not (holds ψ r))
-        (means-not (λ k. Sat w k φ) (holds φ) (sat-holds φ)) (means-not (λ k. Sat w k ψ) (holds ψ) (sat-holds ψ)) i l))
+      (means-not (λ k. Sat w k φ) (holds φ) (sat-holds φ)) (means-not (λ k. Sat w k ψ) (holds ψ) (sat-holds ψ)) i l))
