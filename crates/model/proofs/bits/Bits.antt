@@ -1,6 +1,6 @@
 -- Laws of `bit` and `ofBits`, over the width: a number below 2 ^ n is its bits below n.
 use mathlib.Core.Path.{_≡_, refl, sym, ap, ap₂, _∙_}
-use Prim.Native.Nat.{ℕ, zero, suc, _+_, _-_, _*_, _/_, _%_, _^_, _≤_, _<_}
+use Prim.Native.Nat.{ℕ, zero, suc, _+_, _-_, _*_, _/_, _%_, _^_, _<_}
 use native.Mathlib.Nat.{add-mul-div-right, add-mul-mod-self-right, div-eq-of-lt, mul-assoc, pow-suc, div-div-eq-div-mul, mul-comm, zero-add, zero-div, div-one}
 use native.Mathlib.Omega.{arith}
 use native.Mathlib.Decide.{decLt}

@@ -1,9 +1,9 @@
 -- The machine's `&` and `|` of numbers (lib.Bits) against their bits. `or` below 2 ^ n is lib.Bits.or-lt.
-use mathlib.Core.Path.{_≡_, refl, sym, ap, ap₂, _∙_}
-use Prim.Native.Nat.{ℕ, zero, suc, _/_, _%_, _^_, _<_, min, max}
+use mathlib.Core.Path.{_≡_, refl, ap, _∙_}
+use Prim.Native.Nat.{ℕ, zero, suc, _/_, _%_, _^_, _<_}
 use native.Mathlib.Nat.{lt-of-le-of-lt}
 use native.Mathlib.Omega.{arith}
-use mathlib.Core.Bool.{Bool, true, false, _&&_, _||_}
+use mathlib.Core.Bool.{_&&_, _||_}
 use lib.Dec.{eqb}
 use lib.Bits.{bitAnd, bitOr, and-shr, and-mod, and-le-l, or-shr, or-mod}
 use Rattle.model.specs.Bits.{bit}

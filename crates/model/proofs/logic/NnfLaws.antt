@@ -2,87 +2,17 @@
 use mathlib.Core.Path.{_≡_, refl, sym, ap, ap₂, _∙_}
 use Prim.Native.Nat.{ℕ, _+_, _≤_}
 use native.Mathlib.Omega.{arith}
-use mathlib.Core.Bool.{Bool, true, false, not, _&&_, _||_, Bool·not-not}
-use mathlib.Core.List.{List, [], _∷_}
+use mathlib.Core.Bool.{Bool, true, false, not, _&&_, _||_, Bool·not-not, false≢true}
+use mathlib.Core.List.{List, _∷_}
 use lib.Dec.{T}
 use Rattle.model.specs.declared.Constant.the-variants.{False, True, Last}
 use Rattle.model.specs.declared.Unary.the-variants.{Not, Next, Eventually, Always}
 use Rattle.model.specs.declared.Binary.the-variants.{And, Or, Until, Release}
 use Rattle.model.specs.logic.Formula.{Formula, constant, fact, action, unary, binary}
 use Rattle.model.specs.logic.Parts.{temporal, count}
-use Rattle.model.specs.logic.Truth.{World, holds, onNext, isLast, someOf, allOf, someUntil, allUnless}
+use Rattle.model.specs.logic.Truth.{World, holds}
 use Rattle.model.specs.logic.NormalForm.{nnf, isLiteral, positive}
-
-not-and : (a b : Bool) → not (a && b) ≡ not a || not b
-not-and true b = refl
-not-and false b = refl
-
-not-or : (a b : Bool) → not (a || b) ≡ not a && not b
-not-or true b = refl
-not-or false b = refl
-
-abbrev Test : Type 0
-Test = List World → Bool
-
--- p is g of q wherever there is a world
-abbrev Pointwise : (Bool → Bool) → Test → Test → Type 0
-Pointwise g p q = (w : World) (ws : List World) → p (w ∷ ws) ≡ g (q (w ∷ ws))
-
-abbrev same : Bool → Bool
-same b = b
-
-module _ (p q : Test) where
-  next-same : Pointwise same p q → (w : World) (ws : List World) → onNext p (w ∷ ws) ≡ onNext q (w ∷ ws)
-  unfolding onNext
-  next-same e w [] = refl
-  next-same e w (v ∷ ws) = e v ws
-
-  -- "not next ψ becomes last or next not ψ"
-  next-not : Pointwise not p q → (w : World) (ws : List World) → isLast (w ∷ ws) || onNext p (w ∷ ws) ≡ not (onNext q (w ∷ ws))
-  unfolding onNext isLast
-  next-not e w [] = refl
-  next-not e w (v ∷ ws) = e v ws
-
-  some-same : Pointwise same p q → (ws : List World) → someOf p ws ≡ someOf q ws
-  unfolding someOf
-  some-same e [] = refl
-  some-same e (w ∷ ws) = ap₂ _||_ (e w ws) (some-same e ws)
-
-  all-same : Pointwise same p q → (ws : List World) → allOf p ws ≡ allOf q ws
-  unfolding allOf
-  all-same e [] = refl
-  all-same e (w ∷ ws) = ap₂ _&&_ (e w ws) (all-same e ws)
-
-  some-not : Pointwise not p q → (ws : List World) → someOf p ws ≡ not (allOf q ws)
-  unfolding someOf allOf
-  some-not e [] = refl
-  some-not e (w ∷ ws) = simp (e w ws, some-not e ws, not-and)
-
-  all-not : Pointwise not p q → (ws : List World) → allOf p ws ≡ not (someOf q ws)
-  unfolding someOf allOf
-  all-not e [] = refl
-  all-not e (w ∷ ws) = simp (e w ws, all-not e ws, not-or)
-
-module _ (p q p′ q′ : Test) where
-  until-same : Pointwise same p q → Pointwise same p′ q′ → (ws : List World) → someUntil p p′ ws ≡ someUntil q q′ ws
-  unfolding someUntil
-  until-same e f [] = refl
-  until-same e f (w ∷ ws) = ap₂ _||_ (f w ws) (ap₂ _&&_ (e w ws) (until-same e f ws))
-
-  release-same : Pointwise same p q → Pointwise same p′ q′ → (ws : List World) → allUnless p p′ ws ≡ allUnless q q′ ws
-  unfolding allUnless
-  release-same e f [] = refl
-  release-same e f (w ∷ ws) = ap₂ _&&_ (f w ws) (ap₂ _||_ (e w ws) (release-same e f ws))
-
-  until-not : Pointwise not p q → Pointwise not p′ q′ → (ws : List World) → someUntil p p′ ws ≡ not (allUnless q q′ ws)
-  unfolding someUntil allUnless
-  until-not e f [] = refl
-  until-not e f (w ∷ ws) = simp (e w ws, f w ws, until-not e f ws, not-or, not-and)
-
-  release-not : Pointwise not p q → Pointwise not p′ q′ → (ws : List World) → allUnless p p′ ws ≡ not (someUntil q q′ ws)
-  unfolding someUntil allUnless
-  release-not e f [] = refl
-  release-not e f (w ∷ ws) = simp (e w ws, f w ws, release-not e f ws, not-or, not-and)
+use Rattle.model.proofs.logic.TruthLaws.{not-and, not-or, next-same, next-not, some-same, all-same, some-not, all-not, until-same, release-same, until-not, release-not}
 
 -- a truth, or its negation
 abbrev pub signed : Bool → Bool → Bool
@@ -152,17 +82,17 @@ and-left false b e = e
 
 and-right : (a b : Bool) → a && b ≡ true → b ≡ true
 and-right true b e = e
-and-right false b e = let z : _≡_ {A = ℕ} 0 1 = cc in absurd (omega arith)
+and-right false b e = absurd (false≢true e)
 
 keeps-literal : (φ : Formula) → isLiteral φ ≡ true → nnf φ false ≡ unary Not φ
 unfolding nnf
-keeps-literal (constant False) e = let z : _≡_ {A = ℕ} 0 1 = cc in absurd (omega arith)
-keeps-literal (constant True) e = let z : _≡_ {A = ℕ} 0 1 = cc in absurd (omega arith)
+keeps-literal (constant False) e = absurd (false≢true e)
+keeps-literal (constant True) e = absurd (false≢true e)
 keeps-literal (constant Last) e = refl
 keeps-literal (fact i) e = refl
 keeps-literal (action a) e = refl
-keeps-literal (unary o φ) e = let z : _≡_ {A = ℕ} 0 1 = cc in absurd (omega arith)
-keeps-literal (binary o φ ψ) e = let z : _≡_ {A = ℕ} 0 1 = cc in absurd (omega arith)
+keeps-literal (unary o φ) e = absurd (false≢true e)
+keeps-literal (binary o φ ψ) e = absurd (false≢true e)
 
 -- "no other change is made": what is positive stays as it is
 pub nnf-keeps : (φ : Formula) → positive φ ≡ true → nnf φ true ≡ φ

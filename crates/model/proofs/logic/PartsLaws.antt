@@ -113,12 +113,12 @@ module _ (s : ℕ → Bool) (r : List World) where
   inside (binary Until φ ψ) n at h = (
     h,
     inside-append (parts φ (suc n) (suc at)) _ (inside φ (suc n) (suc at) (agree-left φ (suc n) (suc at) _ (h .1)))
-      (inside ψ (suc n + count φ) (suc at + size φ) (agree-right φ (suc n) (suc at) _ (h .1))),
+        (inside ψ (suc n + count φ) (suc at + size φ) (agree-right φ (suc n) (suc at) _ (h .1))),
   )
   inside (binary Release φ ψ) n at h = (
     h,
     inside-append (parts φ (suc n) (suc at)) _ (inside φ (suc n) (suc at) (agree-left φ (suc n) (suc at) _ (h .1)))
-      (inside ψ (suc n + count φ) (suc at + size φ) (agree-right φ (suc n) (suc at) _ (h .1))),
+        (inside ψ (suc n + count φ) (suc at + size φ) (agree-right φ (suc n) (suc at) _ (h .1))),
   )
 
 -- the number made of the parts' truths agrees with them

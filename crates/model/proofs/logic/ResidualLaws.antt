@@ -2,7 +2,6 @@
 use mathlib.Core.Path.{_≡_, sym, ap, _∙_}
 use mathlib.Core.Logic.{_↔_}
 use Prim.Native.Nat.{ℕ, _^_, _<_}
-use native.Mathlib.Omega.{arith}
 use mathlib.Core.Bool.{true, false}
 use mathlib.Core.List.{List, [], _∷_}
 use lib.Pow.{pow-pos}
@@ -20,6 +19,7 @@ pub residual-lt : (n : ℕ) (φ : Formula) (w : World) → residual n φ w < 2 ^
 unfolding residual
 residual-lt n φ w = ofBits-lt (2 ^ n) _
 
+-- and so is what a residual leaves
 pub progressed-lt : (n : ℕ) (ps : List Part) (r : ℕ) (w : World) → progressed n ps r w < 2 ^ (2 ^ n)
 unfolding progressed
 progressed-lt n ps r w = ofBits-lt (2 ^ n) _
