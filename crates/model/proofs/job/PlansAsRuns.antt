@@ -3,6 +3,7 @@ use mathlib.Core.Path.{_≡_, refl, sym, ap, _∙_, subst}
 use mathlib.Core.Logic.{_↔_}
 use Prim.Native.Nat.{ℕ, suc, _+_, _<_}
 use native.Mathlib.Omega.{arith}
+use native.Mathlib.Nat.{zero-add}
 use mathlib.Core.Bool.{Bool, true, false, true≢false}
 use mathlib.Core.Option.{none, some}
 use mathlib.Core.List.{List, [], _∷_}
@@ -16,6 +17,7 @@ use Rattle.model.specs.exploration.Key.{Key, zeroKey, extend}
 use Rattle.model.specs.search.Node.{Node, closingAll, someDead}
 use Rattle.model.specs.search.JobSystem.{startNode, nextNode, isGoal, systemOf}
 use Rattle.model.proofs.exploration.Runs.{Run, stop, on, run-steps}
+use Rattle.model.proofs.exploration.Optimality.{GoalRun}
 use Rattle.model.proofs.job.Accepted.{ProperJob}
 use Rattle.model.proofs.job.PlanLaws.{executable-cons, allowed-split}
 use Rattle.model.proofs.job.NodeLaws.{firstNode, worldAfter, nodeAfter, start-some, next-some}
@@ -91,3 +93,45 @@ module _ (j : Job) where
           meets = sym (holds-on m i p) ∙ c .meets;
           cost = omega (arith, c .cost);
         }) (run-course r)
+
+    -- The constraints hold of a plan's worlds exactly if what the start leaves of them does.
+    start-holds : (p : List ℕ) → HoldsOn (firstNode j) p ≡ allHold (j .constraints) (worlds j p)
+    unfolding worlds
+    start-holds p = right-first j (j .constraints) (proper .constraint-parts) (closingWorld (j .start)) (j .start) p
+
+    -- the key of a plan
+    abbrev pub keyOf : List ℕ → Key
+    keyOf p = record { cost = costOf j p; steps = length p }
+
+    course-key : {m t : Node} {k : Key} {p : List ℕ} → Run (systemOf j) m zeroKey p t k → k ≡ keyOf p
+    unfolding zeroKey
+    course-key {p = p} r =
+        let a = run-course r .cost ∙ zero-add (costOf j p) in
+        let b = run-steps (systemOf j) r ∙ zero-add (length p) in
+        λ i. record { cost = a i; steps = b i }
+
+    -- The end of a run is a goal exactly if its state has the goal facts and its actions meet what the residuals before them say.
+    end-goal : {m t : Node} {k l : Key} {p : List ℕ} → Course m k p t l
+        → (isGoal j t ≡ true) ↔ ((within (j .goal) (stateAfter j (m .state) p) ≡ true) × (HoldsOn m p ≡ true))
+    unfolding worldsAfter
+    end-goal {t = t} c =
+        (λ g. let h = (goal-split t) .0 g in (ap (within (j .goal)) (sym (c .state)) ∙ h .0, c .meets ∙ h .1),
+         λ h. (goal-split t) .1 (ap (within (j .goal)) (c .state) ∙ h .0, sym (c .meets) ∙ h .1))
+
+    -- An allowed plan is a run from the start to a goal, and its cost and length are the key.
+    pub allowed-run : (p : List ℕ) → allowed j p ≡ true → GoalRun (systemOf j) p (keyOf p)
+    allowed-run p h =
+        let a = (allowed-split j p) .0 h in
+        let met : HoldsOn (firstNode j) p ≡ true = start-holds p ∙ a .2 in
+        let l : length (firstNode j .residuals) ≡ length (j .constraints) = length-residuals (j .constraints) (closingWorld (j .start)) in
+        let s : startNode j ≡ some (firstNode j) = (start-some j (firstNode j)) .1 (alive-if (firstNode j) p l met, refl) in
+        let r = makes-run p (firstNode j) zeroKey l (a .0) met in
+        (firstNode j, r .0, s, subst (Run (systemOf j) (firstNode j) zeroKey p (r .0)) (course-key (r .2)) (r .2), (end-goal (run-course (r .2))) .1 (a .1, met))
+
+    -- A run from the start to a goal is an allowed plan, and its key is the plan's.
+    pub run-allowed : (p : List ℕ) (k : Key) → GoalRun (systemOf j) p k → (allowed j p ≡ true) × (k ≡ keyOf p)
+    run-allowed p k (m, t, s, r, g) =
+        let r′ : Run (systemOf j) (firstNode j) zeroKey p t k = subst (λ (n : Node). Run (systemOf j) n zeroKey p t k) (sym (((start-some j m) .0 s) .1)) r in
+        let c = run-course r′ in
+        let e = (end-goal c) .0 g in
+        ((allowed-split j p) .1 (c .made, e .0, sym (start-holds p) ∙ e .1), course-key r′)
