@@ -10,3 +10,4 @@ pub mod FiniteNodes
 pub mod ResidualsHold
 pub mod HintMeaning
 pub mod PlansAsRuns
+pub mod BestPlan

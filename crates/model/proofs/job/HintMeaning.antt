@@ -71,8 +71,8 @@ module _ (j : Job) where
     job-hints = record { meets = meets; made = Made; meets-made = meets-made; carried = meets-carried; dead = meets-dead }
 
     -- A plan meets what the start leaves of the hints exactly if it meets the hints.
-    pub meets-start : (m : Node) (p : List ℕ) → startNode j ≡ some m → meets m (startHints j) p ≡ meetsHints j p
-    unfolding meets startHints meetsHints worlds
+    pub meets-start : (m : Node) (p : List ℕ) → startNode j ≡ some m → job-hints .meets m (startHints j) p ≡ meetsHints j p
+    unfolding job-hints meets startHints meetsHints worlds
     meets-start m p e =
         subst (λ (k : Node). meets k (startHints j) p ≡ meetsHints j p) (((start-some j m) .0 e) .1)
         (right-first j (j .hints) (proper .hint-parts) (record { state = j .start; made = none }) (j .start) p)

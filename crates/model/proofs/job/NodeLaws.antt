@@ -16,7 +16,7 @@ use Rattle.model.specs.search.JobSystem.{alive, startNode, nextNode}
 
 -- ---- equal nodes
 
-numbers-eq : (rs qs : List ℕ) → sameNumbers rs qs ≡ true → rs ≡ qs
+pub numbers-eq : (rs qs : List ℕ) → sameNumbers rs qs ≡ true → rs ≡ qs
 unfolding sameNumbers
 numbers-eq [] [] h = refl
 numbers-eq [] (q ∷ qs) h = absurd (true≢false (sym h))
@@ -27,7 +27,7 @@ numbers-eq (r ∷ rs) (q ∷ qs) h = go (eqb r q) refl (numbers-eq rs qs)
     go true e ih = ap₂ (λ (x : ℕ) (xs : List ℕ). x ∷ xs) (eqb-true r q e) (ih (rw (e, sameNumbers) at h))
     go false e ih = absurd (true≢false (sym (rw (e, sameNumbers) at h)))
 
-numbers-same : (rs : List ℕ) → sameNumbers rs rs ≡ true
+pub numbers-same : (rs : List ℕ) → sameNumbers rs rs ≡ true
 unfolding sameNumbers
 numbers-same [] = refl
 numbers-same (r ∷ rs) = rw (eq-eqb r r refl, sameNumbers) (numbers-same rs)

@@ -44,6 +44,10 @@ module _ (j : Job) where
       go true e = rw (e, isGoal) (λ h. (refl, sym closed ∙ h), λ h. closed ∙ h .1)
       go false e = rw (e, isGoal) (λ h. absurd (true≢false (sym h)), λ h. h .0)
 
+  -- the key of a plan
+  abbrev pub keyOf : List ℕ → Key
+  keyOf p = record { cost = costOf j p; steps = length p }
+
   module _ (proper : ProperJob j) where
     -- the residuals of a node hold of the worlds that actions lead through from it
     abbrev HoldsOn : Node → List ℕ → Bool
@@ -98,10 +102,6 @@ module _ (j : Job) where
     start-holds : (p : List ℕ) → HoldsOn (firstNode j) p ≡ allHold (j .constraints) (worlds j p)
     unfolding worlds
     start-holds p = right-first j (j .constraints) (proper .constraint-parts) (closingWorld (j .start)) (j .start) p
-
-    -- the key of a plan
-    abbrev pub keyOf : List ℕ → Key
-    keyOf p = record { cost = costOf j p; steps = length p }
 
     course-key : {m t : Node} {k : Key} {p : List ℕ} → Run (systemOf j) m zeroKey p t k → k ≡ keyOf p
     unfolding zeroKey
