@@ -11,3 +11,4 @@ pub mod ResidualsHold
 pub mod HintMeaning
 pub mod PlansAsRuns
 pub mod BestPlan
+pub mod AcceptedPlans

@@ -42,6 +42,11 @@ module _ (S : System) (L : Entries S) where
   number-of (some-cut g c) = inl (refl, c)
   number-of (none-cut g c) = inr refl
 
+none-dead : (h : List ℕ) → length h ≡ 0 → someDead h ≡ false
+unfolding someDead
+none-dead [] l = refl
+none-dead (r ∷ h) l = absurd (omega arith)
+
 module _ (j : Job) where
   -- "whose every allowed plan of least cost meets all its hints"
   abbrev pub MeetsHints : Type 0
@@ -168,3 +173,11 @@ module _ (j : Job) where
     -- "'no plan' is 11 or 12,"
     pub answer-numbers : {n : ℕ} → solveJob j ≡ no-plan n → (n ≡ 11) ⊎ (n ≡ 12)
     answer-numbers e = ⊎-map (λ h. h .0) (λ h. h) (number-of (systemOf j) entries (answers e))
+
+    -- "without hints always 12"
+    pub no-hints-12 : j .hints ≡ [] → {n : ℕ} → solveJob j ≡ no-plan n → n ≡ 12
+    no-hints-12 none e = go (number-of (systemOf j) entries (answers e))
+      where
+        go : {n : ℕ} → ((n ≡ 11) × SomeCut (systemOf j) entries) ⊎ (n ≡ 12) → n ≡ 12
+        go (inl (a, (m, k, h, l, cut))) = absurd (true≢false (sym cut ∙ none-dead h (explored .proper l .0 ∙ ap length none)))
+        go (inr a) = a
