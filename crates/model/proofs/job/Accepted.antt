@@ -1,20 +1,18 @@
 -- An accepted job keeps the limits that its search relies on.
-use mathlib.Core.Path.{_≡_, refl, sym, ap, _∙_, subst}
-use mathlib.Core.Logic.{_↔_}
+use mathlib.Core.Path.{_≡_, refl, sym, ap, _∙_}
 use Prim.Native.Nat.{ℕ, _+_, _-_, _^_, _≤_, _<_}
 use native.Mathlib.Omega.{arith}
 use native.Mathlib.Decide.{decLt}
 use native.Mathlib.Nat.{lt-of-lt-of-le, add-assoc}
-use mathlib.Core.Bool.{Bool, true, false, _&&_}
+use mathlib.Core.Bool.{Bool, _&&_}
 use mathlib.Core.List.{List, [], _∷_}
-use lib.Dec.{ltb, leb}
+use lib.Dec.{leb}
 use lib.ListN.{length, getD, drop, length-drop, List·getD-eq-default}
 use lib.Pow.{pow-mono}
 use borrow.Author.Tests.{ltb-true, leb-true}
-use Rattle.model.specs.declared.Verdict.{Verdict}
-use Rattle.model.specs.declared.Verdict.the-variants.{Fine, Bad}
+use Rattle.model.specs.declared.Verdict.the-variants.{Fine}
 use Rattle.model.specs.Bits.{numberAt}
-use Rattle.model.specs.Verdict.{unless, orElse, inTurn}
+use Rattle.model.specs.Verdict.{orElse}
 use Rattle.model.specs.logic.Formula.{Formula}
 use Rattle.model.specs.logic.Parts.{Part, partsOf}
 use Rattle.model.specs.logic.Reading.{Parsed, formula, wrong}

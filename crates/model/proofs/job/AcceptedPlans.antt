@@ -12,7 +12,7 @@ use Rattle.model.specs.task.Plan.{allowed, costOf, Best}
 use Rattle.model.specs.exploration.Equations.{plan, no-plan}
 use Rattle.model.specs.search.JobSystem.{solveJob}
 use Rattle.model.proofs.job.Accepted.{ProperJob, accepted-proper}
-use Rattle.model.proofs.job.BestPlan.{MeetsHints, no-hints, plan-allowed, plan-best, none-allowed, no-plan-exactly, best-is-plan, answer-numbers, no-hints-12}
+use Rattle.model.proofs.job.BestPlan.{MeetsHints, no-hints, plan-allowed, plan-best, no-plan-exactly, best-is-plan, answer-numbers, no-hints-12}
 
 pub record AnsweredRight (j : Job) : Type 0 where
   -- every plan is allowed, and its cost is summed from its actions

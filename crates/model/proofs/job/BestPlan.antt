@@ -13,14 +13,14 @@ use Rattle.model.specs.task.Plan.{allowed, meetsHints, costOf, Worse, Be
 use Rattle.model.specs.exploration.Key.{Key, Le, earlier}
 use Rattle.model.specs.exploration.System.{System}
 use Rattle.model.specs.exploration.Equations.{unbounded, Answer, plan, no-plan, Entries, Explores, First, Plan, NoGoal, SomeCut, Answers, with-plan, some-cut, none-cut}
-use Rattle.model.specs.exploration.Explore.{reached, solve}
+use Rattle.model.specs.exploration.Explore.{reached}
 use Rattle.model.specs.search.Node.{someDead, sameNumbers}
 use Rattle.model.specs.search.JobSystem.{systemOf, solveJob}
 use Rattle.model.proofs.exploration.KeyLaws.{earlier-irrefl, earlier-trans}
 use Rattle.model.proofs.exploration.Solves.{Of, reached-solves}
 use Rattle.model.proofs.exploration.Answered.{solve-answers}
 use Rattle.model.proofs.exploration.Paths.{path-run}
-use Rattle.model.proofs.exploration.Optimality.{GoalRun, Kept, best-plan, no-goal-run}
+use Rattle.model.proofs.exploration.Optimality.{Kept, best-plan, no-goal-run}
 use Rattle.model.proofs.job.Accepted.{ProperJob}
 use Rattle.model.proofs.job.NodeLaws.{numbers-eq, numbers-same}
 use Rattle.model.proofs.job.SystemLaws.{job-laws}

@@ -5,7 +5,7 @@ use native.Mathlib.Omega.{arith}
 use native.Mathlib.Nat.{lt-of-lt-of-le}
 use mathlib.Core.Option.{some}
 use mathlib.Core.List.{List, [], _∷_}
-use lib.Bits.{bitAnd, bitOr, or-lt}
+use lib.Bits.{bitAnd, or-lt}
 use lib.ListN.{length}
 use lib.Pow.{pow-add, pow-mono}
 use Rattle.model.specs.job.Job.{Job, Action, actionOf}
@@ -65,8 +65,11 @@ module _ (j : Job) where
 
     pub step-sized : (m : Node) {n : Node} (i : ℕ) → Sized m → nextNode j m i ≡ some n → Sized n
     step-sized m {n} i h e =
-        subst (λ (k : Node). Sized k) (((next-some j m i n) .0 e) .2) (after-lt (actionOf j i) (m .state) (h .0) (proper .add-lt i),
-        length-progressedAll (j .constraints) (m .residuals) _ (h .1), progressedAll-words (j .constraints) (m .residuals) _)
+        subst (λ (k : Node). Sized k) (((next-some j m i n) .0 e) .2) (
+          after-lt (actionOf j i) (m .state) (h .0) (proper .add-lt i),
+          length-progressedAll (j .constraints) (m .residuals) _ (h .1),
+          progressedAll-words (j .constraints) (m .residuals) _,
+        )
 
     code-lt : (m : Node) → Sized m → code m < mostNodes
     unfolding code mostNodes
@@ -80,7 +83,7 @@ module _ (j : Job) where
     unfolding code
     code-eq m n h k e =
         let d : m .state ∷ m .residuals ≡ n .state ∷ n .residuals =
-            digits-eq (m .state ∷ m .residuals) (n .state ∷ n .residuals) (h .0, h .2) (k .0, k .2) (ap suc (h .1 ∙ sym (k .1))) e
+        digits-eq (m .state ∷ m .residuals) (n .state ∷ n .residuals) (h .0, h .2) (k .0, k .2) (ap suc (h .1 ∙ sym (k .1))) e
         in
         let p : m .state ≡ n .state = cc in
         let q : m .residuals ≡ n .residuals = cc in

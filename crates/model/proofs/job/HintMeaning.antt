@@ -1,39 +1,23 @@
 -- The hint residuals of a job say which continuations meet its hints.
-use mathlib.Core.Path.{_≡_, refl, sym, ap, _∙_, subst}
+use mathlib.Core.Path.{_≡_, refl, ap, _∙_, subst}
 use mathlib.Core.Logic.{_↔_}
 use Prim.Native.Nat.{ℕ, _<_}
 use mathlib.Core.Bool.{Bool, true, false}
 use mathlib.Core.Option.{none, some}
-use mathlib.Core.List.{List, [], _∷_}
+use mathlib.Core.List.{List, _∷_}
 use lib.ListN.{length, getD}
 use Rattle.model.specs.Bits.{bit}
 use Rattle.model.specs.declared.Constant.the-variants.{True}
-use Rattle.model.specs.logic.Formula.{Formula, constant}
-use Rattle.model.specs.logic.Truth.{World, allHold}
+use Rattle.model.specs.logic.Formula.{constant}
 use Rattle.model.specs.job.Job.{Job, actionOf}
 use Rattle.model.specs.task.State.{after}
 use Rattle.model.specs.task.Plan.{worldsAfter, worlds, meetsHints}
-use Rattle.model.specs.search.Node.{Node, residuals, progressedAll, someDead}
+use Rattle.model.specs.search.Node.{Node, someDead}
 use Rattle.model.specs.search.JobSystem.{startNode, nextNode, startHints, carryHints, HintSetting, hintTrueAt, Tables, systemOf}
 use Rattle.model.proofs.exploration.Laws.{HintLaws}
-use Rattle.model.proofs.job.Accepted.{FewParts, ProperJob}
-use Rattle.model.proofs.job.NodeLaws.{firstNode, worldAfter, nodeAfter, start-some, next-some}
-use Rattle.model.proofs.job.ResidualsHold.{residualsHold, residuals-right, progressedAll-right, dead-right, settingOf, TrueThere, hold-there}
-
--- ---- residuals along a job's worlds, of which there is always a next one
-
-module _ (j : Job) (φs : List Formula) (few : FewParts φs) where
-  pub right-first : (w : World) (s : ℕ) (p : List ℕ) → residualsHold φs (residuals φs w) (worldsAfter j s p) ≡ allHold φs (w ∷ worldsAfter j s p)
-  unfolding worldsAfter
-  right-first w s [] = residuals-right φs few w (record { state = s; made = none }) []
-  right-first w s (i ∷ p) = residuals-right φs few w (worldAfter j s i) (worldsAfter j (after (actionOf j i) s) p)
-
-  pub right-next : (rs : List ℕ) (w : World) (s : ℕ) (p : List ℕ) → residualsHold φs (progressedAll φs rs w) (worldsAfter j s p) ≡ residualsHold φs rs (w ∷ worldsAfter j s p)
-  unfolding worldsAfter
-  right-next rs w s [] = progressedAll-right φs few rs w (record { state = s; made = none }) []
-  right-next rs w s (i ∷ p) = progressedAll-right φs few rs w (worldAfter j s i) (worldsAfter j (after (actionOf j i) s) p)
-
--- ---- the hints of a job
+use Rattle.model.proofs.job.Accepted.{ProperJob}
+use Rattle.model.proofs.job.NodeLaws.{worldAfter, start-some, next-some}
+use Rattle.model.proofs.job.ResidualsHold.{residualsHold, dead-right, right-first, right-next, settingOf, TrueThere, hold-there}
 
 module _ (j : Job) where
   -- the hint residuals are true of the worlds that the actions lead through from a node
@@ -46,9 +30,10 @@ module _ (j : Job) where
 
   meets-made : (n : Node) (h p : List ℕ) → Tables j h → (meets n h p ≡ true) ↔ ((s : HintSetting) → Made n p s → hintTrueAt h s ≡ true)
   unfolding meets hintTrueAt
-  meets-made n h p t =
-      (λ e s m. ap (bit (getD h (s .hint) 0)) (m .1) ∙ there .0 e (s .hint) (m .0),
-       λ f. there .1 (λ i l. f (record { hint = i; parts = settingOf (getD (j .hints) i (constant True)) (worldsAfter j (n .state) p) }) (l, refl)))
+  meets-made n h p t = (
+    λ e s m. ap (bit (getD h (s .hint) 0)) (m .1) ∙ there .0 e (s .hint) (m .0),
+    λ f. there .1 (λ i l. f (record { hint = i; parts = settingOf (getD (j .hints) i (constant True)) (worldsAfter j (n .state) p) }) (l, refl)),
+  )
     where
       there : (residualsHold (j .hints) h (worldsAfter j (n .state) p) ≡ true) ↔ TrueThere (j .hints) h (worldsAfter j (n .state) p)
       there = hold-there (j .hints) h (worldsAfter j (n .state) p) (t .0)

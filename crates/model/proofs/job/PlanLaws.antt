@@ -1,6 +1,6 @@
 -- What an allowed plan is, taken apart: its actions one by one, its goal, its constraints one by one.
-use mathlib.Core.Path.{_≡_, refl, sym, ap, _∙_}
-use mathlib.Core.Logic.{_↔_}
+use mathlib.Core.Path.{_≡_, refl, sym, _∙_}
+use mathlib.Core.Logic.{_↔_, Iff·rfl, Iff·trans, Iff·and}
 use Prim.Native.Nat.{ℕ, _<_}
 use mathlib.Core.Bool.{Bool, true, false, _&&_, true≢false}
 use mathlib.Core.List.{List, [], _∷_}
@@ -15,16 +15,19 @@ use Rattle.model.specs.task.Plan.{stateAfter, worlds, executable, allowe
 use Rattle.model.proofs.exploration.Each.{All}
 use Rattle.model.proofs.job.VerdictLaws.{and-both}
 
+pub allHold-cons : (φ : Formula) (φs : List Formula) (ws : List World) → allHold (φ ∷ φs) ws ≡ holds φ ws && allHold φs ws
+unfolding allHold
+allHold-cons φ φs ws = go (holds φ ws) refl
+  where
+    go : (b : Bool) → holds φ ws ≡ b → allHold (φ ∷ φs) ws ≡ holds φ ws && allHold φs ws
+    go true e = rw (e, allHold) refl
+    go false e = rw (e, allHold) refl
+
 -- Formulas hold together if each holds.
 pub allHold-each : (φs : List Formula) (ws : List World) → (allHold φs ws ≡ true) ↔ All (λ φ. holds φ ws ≡ true) φs
 unfolding allHold
 allHold-each [] ws = (λ h. tt, λ h. refl)
-allHold-each (φ ∷ φs) ws = go (holds φ ws) refl (allHold-each φs ws)
-  where
-    go : (b : Bool) → holds φ ws ≡ b → (allHold φs ws ≡ true) ↔ All (λ ψ. holds ψ ws ≡ true) φs
-        → (allHold (φ ∷ φs) ws ≡ true) ↔ All (λ ψ. holds ψ ws ≡ true) (φ ∷ φs)
-    go true e ih = rw (e, allHold) (λ h. (refl, ih .0 h), λ h. ih .1 (h .1))
-    go false e ih = rw (e, allHold) (λ h. absurd (true≢false (sym h)), λ h. h .0)
+allHold-each (φ ∷ φs) ws = rw allHold-cons (Iff·trans (and-both (holds φ ws) (allHold φs ws)) (Iff·and Iff·rfl (allHold-each φs ws)))
 
 module _ (j : Job) where
   -- Actions can be made one after the other if the first is one of the job's, is applicable, and the others can be made after it.

@@ -1,17 +1,16 @@
 -- The allowed plans of a job are the runs of its system from the start to a goal, with their cost and length as the key.
 use mathlib.Core.Path.{_≡_, refl, sym, ap, _∙_, subst}
 use mathlib.Core.Logic.{_↔_}
-use Prim.Native.Nat.{ℕ, suc, _+_, _<_}
+use Prim.Native.Nat.{ℕ, _+_}
 use native.Mathlib.Omega.{arith}
 use native.Mathlib.Nat.{zero-add}
 use mathlib.Core.Bool.{Bool, true, false, true≢false}
 use mathlib.Core.Option.{none, some}
 use mathlib.Core.List.{List, [], _∷_}
 use lib.ListN.{length}
-use Rattle.model.specs.logic.Formula.{Formula}
 use Rattle.model.specs.logic.Truth.{World, allHold}
 use Rattle.model.specs.job.Job.{Job, actionOf}
-use Rattle.model.specs.task.State.{within, applicable, after}
+use Rattle.model.specs.task.State.{within, after}
 use Rattle.model.specs.task.Plan.{stateAfter, worldsAfter, worlds, executable, allowed, costOf}
 use Rattle.model.specs.exploration.Key.{Key, zeroKey, extend}
 use Rattle.model.specs.search.Node.{Node, closingAll, someDead}
@@ -22,8 +21,7 @@ use Rattle.model.proofs.job.Accepted.{ProperJob}
 use Rattle.model.proofs.job.PlanLaws.{executable-cons, allowed-split}
 use Rattle.model.proofs.job.NodeLaws.{firstNode, worldAfter, nodeAfter, start-some, next-some}
 use Rattle.model.proofs.job.ResidualLists.{length-residuals, length-progressedAll}
-use Rattle.model.proofs.job.ResidualsHold.{residualsHold, closing-right, dead-right}
-use Rattle.model.proofs.job.HintMeaning.{right-first, right-next}
+use Rattle.model.proofs.job.ResidualsHold.{residualsHold, closing-right, dead-right, right-first, right-next}
 
 module _ (j : Job) where
   -- the closing world of a state
@@ -80,7 +78,7 @@ module _ (j : Job) where
         (q .0, q .1, on i (c .0) s (q .2))
 
     -- what a run by these actions is, from a node with a key to a node with a key
-    pub record Course (m : Node) (k : Key) (p : List ℕ) (t : Node) (l : Key) : Type 0 where
+    record Course (m : Node) (k : Key) (p : List ℕ) (t : Node) (l : Key) : Type 0 where
       pub made : executable j (m .state) p ≡ true
       pub state : t .state ≡ stateAfter j (m .state) p
       pub meets : HoldsOn m p ≡ HoldsOn t []
@@ -114,9 +112,10 @@ module _ (j : Job) where
     end-goal : {m t : Node} {k l : Key} {p : List ℕ} → Course m k p t l
         → (isGoal j t ≡ true) ↔ ((within (j .goal) (stateAfter j (m .state) p) ≡ true) × (HoldsOn m p ≡ true))
     unfolding worldsAfter
-    end-goal {t = t} c =
-        (λ g. let h = (goal-split t) .0 g in (ap (within (j .goal)) (sym (c .state)) ∙ h .0, c .meets ∙ h .1),
-         λ h. (goal-split t) .1 (ap (within (j .goal)) (c .state) ∙ h .0, sym (c .meets) ∙ h .1))
+    end-goal {t = t} c = (
+      λ g. let h = (goal-split t) .0 g in (ap (within (j .goal)) (sym (c .state)) ∙ h .0, c .meets ∙ h .1),
+      λ h. (goal-split t) .1 (ap (within (j .goal)) (c .state) ∙ h .0, sym (c .meets) ∙ h .1),
+    )
 
     -- An allowed plan is a run from the start to a goal, and its cost and length are the key.
     pub allowed-run : (p : List ℕ) → allowed j p ≡ true → GoalRun (systemOf j) p (keyOf p)

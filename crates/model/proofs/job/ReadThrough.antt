@@ -1,29 +1,26 @@
 -- A step list passes the read-through exactly if it is an allowed plan.
-use mathlib.Core.Path.{_≡_, refl, sym, ap, _∙_}
-use mathlib.Core.Logic.{_↔_}
+use mathlib.Core.Path.{_≡_, refl, sym, _∙_}
+use mathlib.Core.Logic.{_↔_, Iff·trans, Iff·and}
 use Prim.Native.Nat.{ℕ, zero, suc, _≤_, _<_}
 use native.Mathlib.Omega.{arith}
-use mathlib.Core.Bool.{Bool, true, false}
+use mathlib.Core.Bool.{true}
 use mathlib.Core.List.{List, [], _∷_}
-use lib.Dec.{ltb, leb}
+use lib.Dec.{ltb}
 use lib.ListN.{length, getD, take}
 use borrow.Author.Tests.{ltb-true, lt-ltb, leb-true, le-leb}
 use Rattle.model.specs.declared.Constant.the-variants.{True}
-use Rattle.model.specs.declared.Refusal.{Refusal}
 use Rattle.model.specs.declared.Verdict.{Verdict}
 use Rattle.model.specs.declared.Verdict.the-variants.{Fine, Bad}
-use Rattle.model.specs.declared.Validated.{Validated}
 use Rattle.model.specs.declared.Validated.the-variants.{Passed, Refused}
 use Rattle.model.specs.Verdict.{unless, orElse, inTurn}
 use Rattle.model.specs.logic.Formula.{Formula, constant}
-use Rattle.model.specs.logic.Truth.{World, holds, allHold}
+use Rattle.model.specs.logic.Truth.{holds, allHold}
 use Rattle.model.specs.job.Job.{Job, actionOf}
 use Rattle.model.specs.job.Layout.{jobOf}
 use Rattle.model.specs.job.Decoding.{jobVerdict}
-use Rattle.model.specs.task.State.{within, applicable, after}
+use Rattle.model.specs.task.State.{applicable, after}
 use Rattle.model.specs.task.Plan.{stateAfter, worlds, executable, allowed, costOf}
 use Rattle.model.specs.calls.Validate.{lengthVerdict, stepVerdict, goalVerdict, constraintVerdict, stepsVerdict, hintBits, validated}
-use Rattle.model.proofs.exploration.Each.{All}
 use Rattle.model.proofs.job.VerdictLaws.{bad-not-fine, orElse-fine, unless-fine, inTurn-fine, all-getD, getD-all}
 use Rattle.model.proofs.job.PlanLaws.{allHold-each, executable-cons, allowed-split}
 
@@ -49,26 +46,15 @@ module _ (j : Job) where
   -- The check of a step passes if it can be made.
   step-passes : (p : List ℕ) (i : ℕ) → (stepVerdict j p i ≡ Fine) ↔ CanMake (j .start) p i
   unfolding stepVerdict
-  step-passes p i = (to, from)
-    where
-      a : Bool
-      a = ltb (getD p i 0) (length (j .actions))
-
-      b : Bool
-      b = applicable (actionOf j (getD p i 0)) (stateAfter j (j .start) (take i p))
-
-      to : orElse (unless a 6 i) (unless b 7 i) ≡ Fine → CanMake (j .start) p i
-      to h =
-          let c = (orElse-fine (unless a 6 i) (unless b 7 i)) .0 h in
-          (ltb-true _ _ ((unless-fine a 6 i) .0 (c .0)), (unless-fine b 7 i) .0 (c .1))
-
-      from : CanMake (j .start) p i → orElse (unless a 6 i) (unless b 7 i) ≡ Fine
-      from c = (orElse-fine (unless a 6 i) (unless b 7 i)) .1 ((unless-fine a 6 i) .1 (lt-ltb _ _ (c .0)), (unless-fine b 7 i) .1 (c .1))
+  step-passes p i =
+      Iff·trans (orElse-fine (unless (ltb (getD p i 0) (length (j .actions))) 6 i) _)
+      (Iff·and (Iff·trans (unless-fine _ 6 i) (ltb-true _ _, lt-ltb _ _)) (unless-fine _ 7 i))
 
   steps-pass : (p : List ℕ) → (inTurn (length p) (stepVerdict j p) ≡ Fine) ↔ (executable j (j .start) p ≡ true)
-  steps-pass p =
-      (λ h. all-made p (j .start) (λ i l. (step-passes p i) .0 ((inTurn-fine (length p) (stepVerdict j p)) .0 h i l)),
-       λ h. (inTurn-fine (length p) (stepVerdict j p)) .1 (λ i l. (step-passes p i) .1 (each-made p (j .start) h i l)))
+  steps-pass p = (
+    λ h. all-made p (j .start) (λ i l. (step-passes p i) .0 ((inTurn-fine (length p) (stepVerdict j p)) .0 h i l)),
+    λ h. (inTurn-fine (length p) (stepVerdict j p)) .1 (λ i l. (step-passes p i) .1 (each-made p (j .start) h i l)),
+  )
 
   -- The checks of the constraints pass if all hold.
   constraints-pass : (p : List ℕ) → (inTurn (length (j .constraints)) (constraintVerdict j p) ≡ Fine) ↔ (allHold (j .constraints) (worlds j p) ≡ true)
@@ -112,9 +98,13 @@ module _ (j : Job) where
       from : allowed j p ≡ true → orElse (lengthVerdict j p) (orElse steps ends) ≡ Fine
       from h =
           let a = (allowed-split j p) .0 h in
-          (orElse-fine (lengthVerdict j p) (orElse steps ends)) .1 ((unless-fine _ 6 65_535) .1 (le-leb _ _ l),
-          (orElse-fine steps ends) .1 ((steps-pass p) .1 (a .0),
-          (orElse-fine (goalVerdict j p) _) .1 ((unless-fine _ 8 0) .1 (a .1), (constraints-pass p) .1 (a .2))))
+          (orElse-fine (lengthVerdict j p) (orElse steps ends)) .1 (
+            (unless-fine _ 6 65_535) .1 (le-leb _ _ l),
+            (orElse-fine steps ends) .1 (
+              (steps-pass p) .1 (a .0),
+              (orElse-fine (goalVerdict j p) _) .1 ((unless-fine _ 8 0) .1 (a .1), (constraints-pass p) .1 (a .2)),
+            ),
+          )
 
   -- What passes is not too long.
   passes-short : (p : List ℕ) → stepsVerdict j p ≡ Fine → length p ≤ 65_535
@@ -144,6 +134,7 @@ validated-passes job p = go (orElse (jobVerdict job) (stepsVerdict j p)) refl
 
     go : (v : Verdict) → orElse (jobVerdict job) (stepsVerdict j p) ≡ v → (validated job p ≡ Passed (costOf j p) (hintBits j p)) ↔ Good
     go Fine e = (λ h. good e, λ g. rw (e, validated) refl)
-    go (Bad r) e =
-        (λ h. absurd (let f : Refused r ≡ Passed (costOf j p) (hintBits j p) = rw (e, validated) at h in let z : _≡_ {A = ℕ} 0 1 = cc in omega arith),
-         λ g. absurd (bad-not-fine (sym e ∙ fine g)))
+    go (Bad r) e = (
+      λ h. absurd (let f : Refused r ≡ Passed (costOf j p) (hintBits j p) = rw (e, validated) at h in let z : _≡_ {A = ℕ} 0 1 = cc in omega arith),
+      λ g. absurd (bad-not-fine (sym e ∙ fine g)),
+    )

@@ -1,16 +1,14 @@
 -- Lists of residuals: as many as formulas, each a table of 64 bits, and the conjunction bit by bit.
-use mathlib.Core.Path.{_≡_, refl, ap, _∙_}
+use mathlib.Core.Path.{_≡_, refl, ap}
 use Prim.Native.Nat.{ℕ, zero, suc, _^_, _<_}
 use native.Mathlib.Omega.{arith}
-use mathlib.Core.Bool.{Bool, _&&_, and-false}
+use mathlib.Core.Bool.{_&&_, and-false}
 use mathlib.Core.List.{List, [], _∷_}
-use lib.Bits.{bitAnd}
 use lib.ListN.{length, getD}
 use Rattle.model.specs.Bits.{bit}
 use Rattle.model.specs.logic.Formula.{Formula}
 use Rattle.model.specs.logic.Parts.{partsOf}
 use Rattle.model.specs.logic.Truth.{World}
-use Rattle.model.specs.logic.Progression.{residual, progressed}
 use Rattle.model.specs.search.Node.{residuals, progressedAll, meetAll}
 use Rattle.model.proofs.exploration.Each.{All}
 use Rattle.model.proofs.bits.Bits.{bit-zero}

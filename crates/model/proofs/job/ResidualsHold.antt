@@ -4,6 +4,7 @@ use mathlib.Core.Logic.{_↔_}
 use Prim.Native.Nat.{ℕ, zero, suc, _<_}
 use native.Mathlib.Omega.{arith}
 use mathlib.Core.Bool.{Bool, true, false, _&&_, and-false, true≢false}
+use mathlib.Core.Option.{none}
 use mathlib.Core.List.{List, [], _∷_}
 use lib.ListN.{length, getD}
 use Rattle.model.specs.Bits.{bit, bitsOf}
@@ -11,12 +12,17 @@ use Rattle.model.specs.declared.Constant.the-variants.{True}
 use Rattle.model.specs.logic.Formula.{Formula, constant}
 use Rattle.model.specs.logic.Parts.{Part, partsOf}
 use Rattle.model.specs.logic.Truth.{World, holds, allHold}
-use Rattle.model.specs.logic.Progression.{residual, progressed, dead, residualHolds, closing}
+use Rattle.model.specs.logic.Progression.{dead, residualHolds, closing}
+use Rattle.model.specs.job.Job.{Job, actionOf}
+use Rattle.model.specs.task.State.{after}
+use Rattle.model.specs.task.Plan.{worldsAfter}
 use Rattle.model.specs.search.Node.{residuals, progressedAll, closingAll, someDead}
 use Rattle.model.proofs.logic.ProgressionLaws.{residual-right, progressed-right}
 use Rattle.model.proofs.logic.ResidualLaws.{dead-holds}
 use Rattle.model.proofs.job.VerdictLaws.{and-both}
 use Rattle.model.proofs.job.Accepted.{FewParts}
+use Rattle.model.proofs.job.PlanLaws.{allHold-cons}
+use Rattle.model.proofs.job.NodeLaws.{worldAfter}
 
 -- all residuals are true, where their formulas' parts have their truth on the worlds
 unfoldable pub residualsHold : List Formula → List ℕ → List World → Bool
@@ -25,16 +31,8 @@ residualsHold [] rs ws = true
 residualsHold (φ ∷ φs) [] ws = true
 residualsHold (φ ∷ φs) (r ∷ rs) ws = residualHolds (partsOf φ) r ws && residualsHold φs rs ws
 
-allHold-cons : (φ : Formula) (φs : List Formula) (ws : List World) → allHold (φ ∷ φs) ws ≡ holds φ ws && allHold φs ws
-unfolding allHold
-allHold-cons φ φs ws = go (holds φ ws) refl
-  where
-    go : (b : Bool) → holds φ ws ≡ b → allHold (φ ∷ φs) ws ≡ holds φ ws && allHold φs ws
-    go true e = rw (e, allHold) refl
-    go false e = rw (e, allHold) refl
-
 -- What formulas leave after the first world holds of the others exactly if they hold of all.
-pub residuals-right : (φs : List Formula) → FewParts φs → (w v : World) (rest : List World)
+residuals-right : (φs : List Formula) → FewParts φs → (w v : World) (rest : List World)
     → residualsHold φs (residuals φs w) (v ∷ rest) ≡ allHold φs (w ∷ v ∷ rest)
 unfolding residualsHold residuals allHold
 residuals-right [] f w v rest = refl
@@ -42,7 +40,7 @@ residuals-right (φ ∷ φs) f w v rest =
     ap₂ _&&_ (residual-right 6 φ (f .0) w v rest) (residuals-right φs (f .1) w v rest) ∙ sym (allHold-cons φ φs (w ∷ v ∷ rest))
 
 -- What residuals leave after a world holds of the others exactly if they hold of all.
-pub progressedAll-right : (φs : List Formula) → FewParts φs → (rs : List ℕ) (w v : World) (rest : List World)
+progressedAll-right : (φs : List Formula) → FewParts φs → (rs : List ℕ) (w v : World) (rest : List World)
     → residualsHold φs (progressedAll φs rs w) (v ∷ rest) ≡ residualsHold φs rs (w ∷ v ∷ rest)
 unfolding residualsHold progressedAll
 progressedAll-right [] f rs w v rest = refl
@@ -72,6 +70,21 @@ dead-right (φ ∷ φs) (r ∷ rs) ws l h = go (dead r) refl (dead-right φs rs 
     go : (b : Bool) → dead r ≡ b → (someDead rs ≡ true → residualsHold φs rs ws ≡ false) → residualHolds (partsOf φ) r ws && residualsHold φs rs ws ≡ false
     go true e ih = rw (dead-holds (partsOf φ) r ws e) refl
     go false e ih = ap (λ (b : Bool). residualHolds (partsOf φ) r ws && b) (ih (rw (e, someDead) at h)) ∙ and-false (residualHolds (partsOf φ) r ws)
+
+-- ---- residuals along a job's worlds, of which there is always a next one
+
+module _ (j : Job) (φs : List Formula) (few : FewParts φs) where
+  pub right-first : (w : World) (s : ℕ) (p : List ℕ) → residualsHold φs (residuals φs w) (worldsAfter j s p) ≡ allHold φs (w ∷ worldsAfter j s p)
+  unfolding worldsAfter
+  right-first w s [] = residuals-right φs few w (record { state = s; made = none }) []
+  right-first w s (i ∷ p) = residuals-right φs few w (worldAfter j s i) (worldsAfter j (after (actionOf j i) s) p)
+
+  pub right-next : (rs : List ℕ) (w : World) (s : ℕ) (p : List ℕ) → residualsHold φs (progressedAll φs rs w) (worldsAfter j s p) ≡ residualsHold φs rs (w ∷ worldsAfter j s p)
+  unfolding worldsAfter
+  right-next rs w s [] = progressedAll-right φs few rs w (record { state = s; made = none }) []
+  right-next rs w s (i ∷ p) = progressedAll-right φs few rs w (worldAfter j s i) (worldsAfter j (after (actionOf j i) s) p)
+
+-- ---- residuals by settings
 
 -- the setting of a formula's parts that is their truth on the worlds
 abbrev pub settingOf : Formula → List World → ℕ

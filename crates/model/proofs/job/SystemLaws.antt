@@ -4,9 +4,8 @@ use Prim.Native.Nat.{ℕ}
 use mathlib.Core.Bool.{_&&_}
 use mathlib.Core.List.{List}
 use mathlib.Core.Option.{none, some}
-use lib.ListN.{length, getD}
+use lib.ListN.{getD}
 use lib.Seq.{ext-getD}
-use Rattle.model.specs.Bits.{bit}
 use Rattle.model.specs.logic.Truth.{World}
 use Rattle.model.specs.job.Job.{Job}
 use Rattle.model.specs.search.Node.{Node, meetAll}

@@ -1,7 +1,7 @@
 -- Laws of checks made one after the other, and of lists of the first so many values.
 use mathlib.Core.Path.{_≡_, refl, sym, ap, _∙_, subst}
 use mathlib.Core.Logic.{_↔_}
-use Prim.Native.Nat.{ℕ, zero, suc, _+_, _<_}
+use Prim.Native.Nat.{ℕ, zero, suc, _<_}
 use native.Mathlib.Omega.{arith}
 use native.Mathlib.Decide.{decLt}
 use mathlib.Core.Bool.{Bool, true, false, _&&_, true≢false}
@@ -11,7 +11,7 @@ use lib.Seq.{getD-at}
 use Rattle.model.specs.declared.Refusal.{Refusal}
 use Rattle.model.specs.declared.Verdict.{Verdict}
 use Rattle.model.specs.declared.Verdict.the-variants.{Fine, Bad}
-use Rattle.model.specs.Verdict.{refusal, unless, orElse, inTurn}
+use Rattle.model.specs.Verdict.{unless, orElse, inTurn}
 use Rattle.model.specs.job.Job.{listOf}
 use Rattle.model.proofs.exploration.Each.{All, all-append}
 
