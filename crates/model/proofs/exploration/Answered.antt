@@ -1,15 +1,15 @@
 -- `solve` gives the answer of the equations, and the answer of any solution of them is the one that `solve` gives.
-use mathlib.Core.Path.{_≡_, refl, sym, ap, _∙_, subst}
+use mathlib.Core.Path.{_≡_, refl, sym, ap, _∙_}
 use Prim.Native.Nat.{ℕ, _≤_}
 use native.Mathlib.Omega.{arith}
-use mathlib.Core.Bool.{Bool, true, false}
-use mathlib.Core.List.{List, [], _∷_, map, List·Memᴰ, Memᴰ·map, Memᴰ·cast}
+use mathlib.Core.Bool.{true}
+use mathlib.Core.List.{List, map, Memᴰ·map, Memᴰ·cast}
 use mathlib.Core.Logic.{_⊎_, inl, inr}
 use lib.ListN.{length, length-map}
 use Rattle.model.specs.exploration.Key.{Key, Le, Lt}
 use Rattle.model.specs.exploration.System.{System}
-use Rattle.model.specs.exploration.Equations.{Bound, unbounded, Within, Answer, plan, no-plan, Entries, Explores, Uncut, Path, Plan, NoGoal, SomeCut, Answers, with-plan, some-cut, none-cut}
-use Rattle.model.specs.exploration.Explore.{Entry, reached, answer, solve}
+use Rattle.model.specs.exploration.Equations.{Bound, unbounded, Within, Answer, plan, Entries, Explores, Uncut, Plan, NoGoal, Answers, with-plan, some-cut, none-cut}
+use Rattle.model.specs.exploration.Explore.{Entry, reached, solve}
 use Rattle.model.proofs.exploration.KeyLaws.{lt-le, le-antisym, lt-or-le, first-antisym}
 use Rattle.model.proofs.exploration.Laws.{Laws, Finite}
 use Rattle.model.proofs.exploration.Each.{All, all-map}
@@ -111,5 +111,5 @@ module _ (S : System) where
 pub reached-at-least : (S : System) → Laws S → (ns : List (S .Node)) → Apart (S .same) ns → All (λ n. (k : Key) × (h : S .Hints) × Of S (reached S) n k h) ns → length ns ≤ length (reached S)
 reached-at-least S laws ns d h =
     let l = apart-length (S .same) (laws .same-eq) (laws .same-refl) (map (λ (e : Entry S). e .node) (reached S)) ns
-      (all-map _ _ (λ n r. Memᴰ·cast (sym (r .2 .2)) (Memᴰ·map (λ (e : Entry S). e .node) (r .2 .1))) ns h) d in
+    (all-map _ _ (λ n r. Memᴰ·cast (sym (r .2 .2)) (Memᴰ·map (λ (e : Entry S). e .node) (r .2 .1))) ns h) d in
     omega (arith, length-map (reached S) (λ (e : Entry S). e .node))

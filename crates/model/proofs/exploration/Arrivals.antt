@@ -7,7 +7,7 @@ use mathlib.Core.Bool.{Bool, true, false, true≢false}
 use mathlib.Core.Option.{Option, none, some}
 use mathlib.Core.List.{List, [], _∷_, _++_, List·Memᴰ, List·Memᴰ·head as here, List·Memᴰ·tail as there, List·Memᴰ·not-nil, List·Memᴰ·cases-cons}
 use mathlib.Core.Logic.{_⊎_, inl, inr}
-use Rattle.model.specs.exploration.Key.{Key, extend, Le, less}
+use Rattle.model.specs.exploration.Key.{extend, Le, less}
 use Rattle.model.specs.exploration.System.{System}
 use Rattle.model.specs.exploration.Explore.{Entry, isCut, arrival, moves, arrivals, known, fresh, least}
 use Rattle.model.proofs.exploration.KeyLaws.{le-refl, le-trans, lt-le, less-yes, less-no}

@@ -3,30 +3,27 @@ use mathlib.Core.Path.{_≡_, refl, sym, ap, _∙_, subst}
 use Prim.Native.Nat.{ℕ}
 use mathlib.Core.Bool.{Bool, true, false, true≢false}
 use mathlib.Core.Option.{Option, none, some}
-use mathlib.Core.List.{List, [], _∷_, List·Memᴰ, List·Memᴰ·head as here, List·Memᴰ·tail as there, List·Memᴰ·not-nil}
-use mathlib.Core.Logic.{_⊎_, inl, inr}
+use mathlib.Core.List.{List, [], _∷_, List·Memᴰ, List·Memᴰ·head as here, List·Memᴰ·tail as there}
+use mathlib.Core.Logic.{inl, inr}
 use lib.ListN.{length}
 use Rattle.model.specs.exploration.Key.{Key, Le, Lt, less, earlier}
 use Rattle.model.specs.exploration.System.{System}
-use Rattle.model.specs.exploration.Equations.{plan, no-plan, Uncut, Path, First, Plan, SomeCut, Answers, with-plan, some-cut, none-cut}
+use Rattle.model.specs.exploration.Equations.{Uncut, Path, First, Plan, Answers, with-plan, some-cut, none-cut}
 use Rattle.model.specs.exploration.Explore.{Entry, isCut, better, bestGoal, someCut, answer}
 use Rattle.model.proofs.exploration.KeyLaws.{le-refl, le-trans, lt-le, not-below, le-antisym, less-yes, less-no, first-total, first-trans}
 use Rattle.model.proofs.exploration.Each.{All, all-map, all-at, all-mem}
+use Rattle.model.proofs.exploration.Gather.{Sized}
 use Rattle.model.proofs.exploration.Solves.{Of}
 use Rattle.model.proofs.exploration.Paths.{path-end, path-steps, path-cast}
 
 module _ (S : System) where
   -- an uncut entry at a goal
-  abbrev pub AtGoal : Entry S → Type 0
+  abbrev AtGoal : Entry S → Type 0
   AtGoal e = (S .goal (e .node) ≡ true) × (isCut S e ≡ false)
 
   -- of less key, or of the same key and with the first path
   abbrev Beats : Entry S → Entry S → Type 0
   Beats x y = Le (x .key) (y .key) × (x .key ≡ y .key → First S (x .path) (y .path))
-
-  -- the path has as many actions as the key says
-  abbrev Sized : Entry S → Type 0
-  Sized e = length (e .path) ≡ e .key .steps
 
   beats-trans : (x y z : Entry S) → Beats x y → Beats y z → Beats x z
   beats-trans x y z a b = (le-trans _ _ _ (a .0) (b .0), λ e. first-trans S _ _ _ (a .1 (xy e)) (b .1 (sym (xy e) ∙ e)))
@@ -46,7 +43,7 @@ module _ (S : System) where
   skip x L none n b = (n, b)
   skip x L (some y) n b = (there (b .0), b .1, (λ g. absurd (n g), b .2))
 
-  better-best : (x : Entry S) (L : List (Entry S)) (o : Option (Entry S)) → AtGoal x → Sized x → All (λ y. AtGoal y → Sized y) L → BestOf L o → BestOf (x ∷ L) (better S x o)
+  better-best : (x : Entry S) (L : List (Entry S)) (o : Option (Entry S)) → AtGoal x → Sized S x → All (λ y. AtGoal y → Sized S y) L → BestOf L o → BestOf (x ∷ L) (better S x o)
   unfolding better
   better-best x L none g s z b = (here refl, g, ((λ h. (le-refl _, λ e. inl refl)), all-map _ _ (λ y n h. absurd (n h)) L b))
   better-best x L (some y) g s z b = go (less (x .key) (y .key)) (less (y .key) (x .key)) (earlier (x .path) (y .path)) refl refl refl
@@ -66,7 +63,7 @@ module _ (S : System) where
       go false false true e f h = rw (e, f, h, better) (x-wins (less-no _ _ f, λ k. inr h))
       go false false false e f h = rw (e, f, h, better) (y-wins (less-no _ _ e, λ k. first-total S (y .path) (x .path) (lengths k) h))
 
-  best-goal : (L : List (Entry S)) → All (λ y. AtGoal y → Sized y) L → BestOf L (bestGoal S L)
+  best-goal : (L : List (Entry S)) → All (λ y. AtGoal y → Sized S y) L → BestOf L (bestGoal S L)
   unfolding bestGoal
   best-goal [] z = tt
   best-goal (x ∷ L) z = go (S .goal (x .node)) (isCut S x) refl refl (best-goal L (z .1))
@@ -138,4 +135,4 @@ module _ (S : System) where
             no-goal : (b : Bool) → someCut S M ≡ b → All (λ y. AtGoal y → ⊥) M → Answers S (Of S M) (answer S M)
             no-goal true q n = let c = some-is-cut M q in rw (p, q, answer) (some-cut (λ m k u g. all-at _ M (u .1 .1) n (goal-entry u g)) (c .0 .node, c .0 .key, c .0 .hints, (c .0, c .1, refl, refl, refl), c .2))
             no-goal false q n = rw (p, q, answer) (none-cut (λ m k u g. all-at _ M (u .1 .1) n (goal-entry u g))
-              (λ c. true≢false (sym (c .4) ∙ ap (S .cut) (sym (c .3 .4)) ∙ all-at _ M (c .3 .1) (none-is-cut M q))))
+                (λ c. true≢false (sym (c .4) ∙ ap (S .cut) (sym (c .3 .4)) ∙ all-at _ M (c .3 .1) (none-is-cut M q))))

@@ -9,7 +9,7 @@ use mathlib.Core.Logic.{_⊎_, inl, inr}
 use lib.ListN.{length}
 use lib.Dec.{eqb}
 use borrow.Author.Tests.{eqb-true, eq-eqb}
-use Rattle.model.proofs.exploration.Each.{All, all-map, all-map₂, all-at, all-mem}
+use Rattle.model.proofs.exploration.Each.{All, all-map, all-map₂}
 
 module _ {A : Type 0} (same : A → A → Bool) where
   -- `same` of any two different places of the list is false.

@@ -1,20 +1,19 @@
 -- The path of every uncut entry that `reached` has is a path through uncut entries, and the first of its node and key.
 use mathlib.Core.Path.{_≡_, refl, sym, ap, _∙_, subst}
-use Prim.Native.Nat.{ℕ, _<_}
-use native.Mathlib.Omega.{arith}
-use mathlib.Core.Bool.{Bool, true, false}
+use Prim.Native.Nat.{ℕ}
+use mathlib.Core.Bool.{false}
 use mathlib.Core.Option.{Option, none, some}
 use mathlib.Core.List.{List, [], _∷_, _++_, List·Memᴰ, List·Memᴰ·not-nil}
 use mathlib.Core.Logic.{_⊎_, inl, inr}
 use lib.ListN.{length}
-use Rattle.model.specs.exploration.Key.{Key, zeroKey, extend, Lt}
+use Rattle.model.specs.exploration.Key.{Key, extend, Lt}
 use Rattle.model.specs.exploration.System.{System}
 use Rattle.model.specs.exploration.Equations.{Starts, Uncut, Path, begin, onward, First}
 use Rattle.model.specs.exploration.Explore.{Entry, isCut, arrivals, startEntry, reached}
 use Rattle.model.proofs.exploration.KeyLaws.{extend-lt, extend-not-zero, key-ind, first-trans, first-snoc}
 use Rattle.model.proofs.exploration.Laws.{Laws, Finite}
 use Rattle.model.proofs.exploration.Each.{All, all-at, all-mem}
-use Rattle.model.proofs.exploration.Arrivals.{To, arrivals-all, arrivals-at}
+use Rattle.model.proofs.exploration.Arrivals.{arrivals-all, arrivals-at}
 use Rattle.model.proofs.exploration.Gather.{At}
 use Rattle.model.proofs.exploration.Invariant.{Gathered, Inv}
 use Rattle.model.proofs.exploration.Fuel.{reached-none, reached-inv}
@@ -22,9 +21,6 @@ use Rattle.model.proofs.exploration.Solves.{Of, distinct-eq}
 use Rattle.model.proofs.exploration.Paths.{path-end, path-run, path-steps, path-cast}
 
 module _ (S : System) (laws : Laws S) (m0 : S .Node) (starts : Starts S m0) (M : List (Entry S)) (inv : Inv S (startEntry S m0) M) where
-  founding : (e : Entry S) → List·Memᴰ e M → (e ≡ startEntry S m0) ⊎ Gathered S (arrivals S M) e
-  founding e m = all-at _ M m (inv .founded)
-
   -- ---- the path of an entry is a path
 
   abbrev Whole : Entry S → Type 0
@@ -42,7 +38,7 @@ module _ (S : System) (laws : Laws S) (m0 : S .Node) (starts : Starts S m0) (M :
   arrivals-whole = arrivals-all S (λ e. List·Memᴰ e M) _ (λ e n i m c b s ih u. onward i (ih (e .key) (extend-lt (e .key) (S .cost i)) e m refl c) b s u) M (all-mem _ M (λ y m. m))
 
   whole : (k : Key) → WholeAt k
-  whole = key-ind WholeAt (λ k ih e m q c. go k ih e m q c (founding e m))
+  whole = key-ind WholeAt (λ k ih e m q c. go k ih e m q c (all-at _ M m (inv .founded)))
     where
       go : (k : Key) → ((j : Key) → Lt j k → WholeAt j) → (e : Entry S) → List·Memᴰ e M → e .key ≡ k → isCut S e ≡ false
           → (e ≡ startEntry S m0) ⊎ Gathered S (arrivals S M) e → Whole e
@@ -61,7 +57,7 @@ module _ (S : System) (laws : Laws S) (m0 : S .Node) (starts : Starts S m0) (M :
       let at-start : n ≡ m0 = cc in
       let p : e ≡ startEntry S m0 = distinct-eq S laws M (inv .distinct) e (startEntry S m0) m (inv .begun) (a ∙ at-start) in
       inl (ap (λ (z : Entry S). z .path) p)
-  first (onward {p = p} {m = o} {n = n} {k = k} i r bound s u) e m a b = go (founding e m) (path-end S r) (λ d l x y. first r d l x y)
+  first (onward {p = p} {m = o} {n = n} {k = k} i r bound s u) e m a b = go (all-at _ M m (inv .founded)) (path-end S r) (λ d l x y. first r d l x y)
     where
       go : (e ≡ startEntry S m0) ⊎ Gathered S (arrivals S M) e → Uncut S (Of S M) o k → ((d : Entry S) → List·Memᴰ d M → d .node ≡ o → d .key ≡ k → First S (d .path) p)
           → First S (e .path) (p ++ (i ∷ []))
@@ -70,7 +66,7 @@ module _ (S : System) (laws : Laws S) (m0 : S .Node) (starts : Starts S m0) (M :
           let d = v .1 .0 in
           let step : S .step (d .node) i ≡ some n = ap (λ (z : S .Node). S .step z i) (v .1 .2) ∙ s in
           let f : First S (e .path) (d .path ++ (i ∷ [])) = arrivals-at S (λ x. At S e x → First S (e .path) (x .path)) M (g .first) (v .1 .1) (ap (S .cut) (v .1 .4) ∙ v .2) bound step
-            (sym a, ap (λ (z : Key). extend z (S .cost i)) (v .1 .3) ∙ sym b) in
+          (sym a, ap (λ (z : Key). extend z (S .cost i)) (v .1 .3) ∙ sym b) in
           let l : length (d .path) ≡ length p = (all-at _ M (v .1 .1) (inv .fit)) .1 ∙ ap (λ (z : Key). z .steps) (v .1 .3) ∙ path-steps S r in
           first-trans S _ _ _ f (first-snoc S (d .path) p i l (ih d (v .1 .1) (v .1 .2) (v .1 .3)))
 

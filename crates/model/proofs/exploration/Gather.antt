@@ -26,9 +26,13 @@ module _ (S : System) where
   abbrev pub At : Entry S → Entry S → Type 0
   At c x = (x .node ≡ c .node) × (x .key ≡ c .key)
 
-  -- the hint residuals of an entry are proper, and its path has as many actions as its key says
+  -- the path of an entry has as many actions as its key says
+  abbrev pub Sized : Entry S → Type 0
+  Sized e = length (e .path) ≡ e .key .steps
+
+  -- the hint residuals of an entry are proper besides
   abbrev pub Fit : Entry S → Type 0
-  Fit e = S .Proper (e .hints) × (length (e .path) ≡ e .key .steps)
+  Fit e = S .Proper (e .hints) × Sized e
 
   pub gather-same : (c : Entry S) (xs : List (Entry S)) → At c (gather S c xs)
   unfolding gather merge

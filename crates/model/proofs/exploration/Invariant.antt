@@ -1,16 +1,15 @@
 -- What `explore` keeps true of the closed entries: keys are least, and each entry but the start's is gathered from all arrivals at it.
-use mathlib.Core.Path.{_≡_, refl, sym, ap, _∙_, subst}
-use Prim.Native.Nat.{ℕ, zero, suc, _+_, _<_}
+use mathlib.Core.Path.{_≡_, refl, sym, _∙_, subst}
+use Prim.Native.Nat.{ℕ, zero, suc}
 use native.Mathlib.Omega.{arith}
-use mathlib.Core.Bool.{Bool, true, false, true≢false}
-use mathlib.Core.Option.{Option, some}
+use mathlib.Core.Bool.{Bool, true, false}
 use mathlib.Core.List.{List, [], _∷_, _++_, List·Memᴰ, List·Memᴰ·head as here, List·Memᴰ·tail as there, Memᴰ·append-right}
 use mathlib.Core.Logic.{_⊎_, inl, inr, _↔_}
-use lib.ListN.{length, length-append}
+use lib.ListN.{length-append}
 use Rattle.model.specs.exploration.Key.{Key, zeroKey, extend, Le, Lt}
 use Rattle.model.specs.exploration.System.{System}
 use Rattle.model.specs.exploration.Equations.{First}
-use Rattle.model.specs.exploration.Explore.{Entry, isCut, moves, arrivals, known, frontier, least, gather, Explored, all-of, no-more, explore, startEntry}
+use Rattle.model.specs.exploration.Explore.{Entry, isCut, moves, arrivals, known, frontier, least, gather, Explored, all-of, explore, startEntry}
 use Rattle.model.proofs.exploration.KeyLaws.{le-refl, le-trans, lt-le, le-lt-trans, not-below, extend-lt}
 use Rattle.model.proofs.exploration.Laws.{Laws}
 use Rattle.model.proofs.exploration.Each.{All, all-map, all-map₂, all-append, all-right, all-at, all-mem}

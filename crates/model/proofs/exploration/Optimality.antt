@@ -2,7 +2,6 @@
 use mathlib.Core.Path.{_≡_, refl, sym, ap, _∙_, subst}
 use Prim.Native.Nat.{ℕ, _≤_}
 use mathlib.Core.Bool.{Bool, true, false, true≢false}
-use mathlib.Core.Option.{Option, some}
 use mathlib.Core.List.{List, [], _∷_, _++_, append-nil, append-assoc}
 use mathlib.Core.Logic.{_⊎_, inl, inr}
 use Rattle.model.specs.exploration.Key.{Key, zeroKey, extend, Le, Lt}
@@ -42,8 +41,8 @@ module _ (S : System) where
         arrival-kept f b s made =
             let p = x .proper (b .entry) in
             let met : hl .meets n f as′ ≡ true =
-              ap (λ (z : S .Hints). hl .meets n z as′) (b .hintsAre) ∙ hl .carried (b .source) (b .hints) (b .action) as′ p (b .leads)
-              ∙ ih (b .key) (arrives-lt S b) (b .source) (b .hints) (b .entry) (b .action ∷ as′) t (on (b .action) (b .inRange) (b .leads) (subst (λ (z : Key). Run S n z as′ t e) (b .keyIs) r)) g in
+            ap (λ (z : S .Hints). hl .meets n z as′) (b .hintsAre) ∙ hl .carried (b .source) (b .hints) (b .action) as′ p (b .leads)
+            ∙ ih (b .key) (arrives-lt S b) (b .source) (b .hints) (b .entry) (b .action ∷ as′) t (on (b .action) (b .inRange) (b .leads) (subst (λ (z : Key). Run S n z as′ t e) (b .keyIs) r)) g in
             (hl .meets-made n f as′ (subst (S .Proper) (sym (b .hintsAre)) (laws .carry-proper (b .hints) n (b .action) p))) .0 met s made
 
         entry-kept : (h : S .Hints) → L n k h → Starts S n ⊎ ((f : S .Hints) × Arrives S L n k f) → hl .meets n h as′ ≡ true

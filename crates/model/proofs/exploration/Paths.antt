@@ -1,8 +1,8 @@
 -- Paths through uncut entries: their ends, their runs, their lengths, and that they depend on lower keys alone.
-use mathlib.Core.Path.{_≡_, refl, sym, ap, _∙_, subst}
-use Prim.Native.Nat.{ℕ, zero, _+_}
+use mathlib.Core.Path.{_≡_, subst}
+use Prim.Native.Nat.{ℕ}
 use native.Mathlib.Omega.{arith}
-use mathlib.Core.List.{List, [], _∷_, _++_}
+use mathlib.Core.List.{List}
 use lib.ListN.{length}
 use Rattle.model.specs.exploration.Key.{Key, zeroKey, extend, Le}
 use Rattle.model.specs.exploration.System.{System}

@@ -2,17 +2,17 @@
 use mathlib.Core.Path.{_≡_, refl, sym, ap, _∙_, subst}
 use Prim.Native.Nat.{ℕ, _<_}
 use native.Mathlib.Omega.{arith}
-use mathlib.Core.Bool.{Bool, true, false, true≢false}
+use mathlib.Core.Bool.{true, false, true≢false}
 use mathlib.Core.Option.{Option, none, some}
 use mathlib.Core.List.{List, [], _∷_, List·Memᴰ, List·Memᴰ·not-nil, List·Memᴰ·cases-cons}
 use mathlib.Core.Logic.{_⊎_, inl, inr, _↔_}
 use Rattle.model.specs.exploration.Key.{Key, zeroKey, extend, Le}
 use Rattle.model.specs.exploration.System.{System}
-use Rattle.model.specs.exploration.Equations.{Bound, unbounded, Within, Entries, Starts, Arrives, Explores}
+use Rattle.model.specs.exploration.Equations.{unbounded, Within, Entries, Starts, Arrives, Explores}
 use Rattle.model.specs.exploration.Explore.{Entry, isCut, arrivals, known, startEntry, reached}
 use Rattle.model.proofs.exploration.Laws.{Laws, Finite}
 use Rattle.model.proofs.exploration.Each.{All, all-map, all-at, all-mem}
-use Rattle.model.proofs.exploration.Arrivals.{To, arrivals-all, arrivals-at, new-apart, known-entry}
+use Rattle.model.proofs.exploration.Arrivals.{arrivals-all, arrivals-at, new-apart, known-entry}
 use Rattle.model.proofs.exploration.Gather.{At}
 use Rattle.model.proofs.exploration.Invariant.{Gathered, Distinct, Complete, Inv}
 use Rattle.model.proofs.exploration.Fuel.{reached-none, reached-inv}
@@ -73,8 +73,9 @@ module _ (S : System) where
       moved : {n : S .Node} {k : Key} {f : S .Hints} (m : S .Node) (j : Key) → m ≡ n → j ≡ k → Arrives S (Of M) m j f → Arrives S (Of M) n k f
       moved {n} {k} {f} m j p q a = subst (λ (z : S .Node). Arrives S (Of M) z k f) p (subst (λ (z : Key). Arrives S (Of M) m z f) q a)
 
-      founding : (e : Entry S) → List·Memᴰ e M → (e ≡ startEntry S m0) ⊎ Gathered S (arrivals S M) e
-      founding e m = all-at _ M m (inv .founded)
+      start-at : {e : Entry S} {n : S .Node} → e ≡ startEntry S m0 → e .node ≡ n → Starts S n
+      unfolding startEntry
+      start-at p q = starts ∙ ap some (sym (ap (λ (z : Entry S). z .node) p) ∙ q)
 
       solve-start : {n : S .Node} → Starts S n → Of M n zeroKey (S .startHints)
       unfolding startEntry
@@ -86,11 +87,10 @@ module _ (S : System) where
           (e .0 .key, e .0 .hints, (e .0, e .1, e .2, refl, refl))
 
       solve-arrived : {n : S .Node} {k : Key} {h : S .Hints} → Of M n k h → Starts S n ⊎ ((g : S .Hints) × Arrives S (Of M) n k g)
-      unfolding startEntry
-      solve-arrived {n} {k} {h} l = go (founding (l .0) (l .1))
+      solve-arrived {n} {k} {h} l = go (all-at _ M (l .1) (inv .founded))
         where
           go : (l .0 ≡ startEntry S m0) ⊎ Gathered S (arrivals S M) (l .0) → Starts S n ⊎ ((g : S .Hints) × Arrives S (Of M) n k g)
-          go (inl p) = inl (starts ∙ ap some (sym (ap (λ (z : Entry S). z .node) p) ∙ l .2))
+          go (inl p) = inl (start-at p (l .2))
           go (inr f) =
               let x = f .from in
               inr (x .0 .hints, moved (x .0 .node) (x .0 .key) (x .2 .0 ∙ l .2) (x .2 .1 ∙ l .3) (all-at _ (arrivals S M) (x .1) (all-arrive M)))
@@ -102,11 +102,10 @@ module _ (S : System) where
 
       solve-conjoined : {n : S .Node} {k : Key} {h : S .Hints} → (Starts S n → ⊥) → Of M n k h → (s : S .Setting)
           → (S .trueAt h s ≡ true) ↔ ((g : S .Hints) → Arrives S (Of M) n k g → S .trueAt g s ≡ true)
-      unfolding startEntry
-      solve-conjoined {n} {k} {h} far l s = go (founding (l .0) (l .1))
+      solve-conjoined {n} {k} {h} far l s = go (all-at _ M (l .1) (inv .founded))
         where
           go : (l .0 ≡ startEntry S m0) ⊎ Gathered S (arrivals S M) (l .0) → (S .trueAt h s ≡ true) ↔ ((g : S .Hints) → Arrives S (Of M) n k g → S .trueAt g s ≡ true)
-          go (inl p) = absurd (far (starts ∙ ap some (sym (ap (λ (z : Entry S). z .node) p) ∙ l .2)))
+          go (inl p) = absurd (far (start-at p (l .2)))
           go (inr f) = (
             λ t g a.
                 let all = (f .conjoined s) .0 (ap (λ (z : S .Hints). S .trueAt z s) (l .4) ∙ t) in
@@ -147,7 +146,7 @@ module _ (S : System) where
     proper = λ l. absurd (List·Memᴰ·not-nil (l .1));
   }
 
--- THE THEOREM
+-- The entries of all nodes reached are a solution of the equations, with no bound.
 pub reached-solves : (S : System) → Laws S → Finite S → Explores S unbounded (Of S (reached S))
 reached-solves S laws fin = go (S .start) refl
   where

@@ -1,10 +1,8 @@
 -- The equations of exploration have at most one solution, up to the key to which they go.
-use mathlib.Core.Path.{_≡_, refl, sym, ap, _∙_, subst}
-use Prim.Native.Nat.{ℕ}
+use mathlib.Core.Path.{_≡_, refl, sym, _∙_, subst}
 use mathlib.Core.Bool.{Bool, true, false}
-use mathlib.Core.Option.{Option, some}
-use mathlib.Core.Logic.{_⊎_, inl, inr, _↔_}
-use Rattle.model.specs.exploration.Key.{Key, zeroKey, extend, Le, Lt}
+use mathlib.Core.Logic.{_⊎_, inl, inr}
+use Rattle.model.specs.exploration.Key.{Key, zeroKey, Le, Lt}
 use Rattle.model.specs.exploration.System.{System}
 use Rattle.model.specs.exploration.Equations.{Bound, up-to, unbounded, Within, Entries, Starts, Arrives, Explores}
 use Rattle.model.proofs.exploration.KeyLaws.{le-trans, lt-le, le-antisym, lt-or-le, extend-lt, extend-not-zero, key-ind}
@@ -50,12 +48,12 @@ module _ (S : System) where
     hintsAre = a .hintsAre;
   }
 
-  module _ (laws : Laws S) (B : Bound) where
-    abbrev pub Agree : Entries S → Entries S → Key → Type 0
-    Agree L M k = Within B k → (n : S .Node) (h : S .Hints) → (L n k h → M n k h) × (M n k h → L n k h)
+  abbrev Agree : Entries S → Entries S → Key → Type 0
+  Agree L M k = (n : S .Node) (h : S .Hints) → (L n k h → M n k h) × (M n k h → L n k h)
 
+  module _ (laws : Laws S) (B : Bound) where
     -- Two solutions that agree on lower keys: an entry of the one is one of the other.
-    half : (L M : Entries S) → Explores S B L → Explores S B M → (k : Key) → ((j : Key) → Lt j k → (n : S .Node) (h : S .Hints) → (L n j h → M n j h) × (M n j h → L n j h))
+    half : (L M : Entries S) → Explores S B L → Explores S B M → (k : Key) → ((j : Key) → Lt j k → Agree L M j)
         → Within B k → (n : S .Node) (h : S .Hints) → L n k h → M n k h
     half L M x y k ih w n h l = go (x .arrived l)
       where
@@ -79,14 +77,14 @@ module _ (S : System) where
             ] in
             let hm : M n k (c .1) = subst (λ (z : Key). M n z (c .1)) same (c .2) in
             let hh : c .1 ≡ h = laws .ext (c .1) h (y .proper hm) (x .proper l) (λ s. same-truth (S .trueAt (c .1) s) (S .trueAt h s)
-              (λ t. (x .conjoined far l s) .1 (λ f b. (y .conjoined far hm s) .0 t f (to f b)))
-              (λ t. (y .conjoined far hm s) .1 (λ f b. (x .conjoined far l s) .0 t f (back f b)))) in
+            (λ t. (x .conjoined far l s) .1 (λ f b. (y .conjoined far hm s) .0 t f (to f b)))
+            (λ t. (y .conjoined far hm s) .1 (λ f b. (x .conjoined far l s) .0 t f (back f b)))) in
             subst (M n k) hh hm
 
-    agree : (L M : Entries S) → Explores S B L → Explores S B M → (k : Key) → Agree L M k
-    agree L M x y = key-ind (Agree L M) (λ k ih w n h.
-      let below : (j : Key) → Lt j k → (m : S .Node) (g : S .Hints) → (L m j g → M m j g) × (M m j g → L m j g) = λ j lt. ih j lt (within-below B j k (lt-le j k lt) w) in
-      (half L M x y k below w n h, half M L y x k (λ j lt m g. ((below j lt m g) .1, (below j lt m g) .0)) w n h))
+    agree : (L M : Entries S) → Explores S B L → Explores S B M → (k : Key) → Within B k → Agree L M k
+    agree L M x y = key-ind (λ k. Within B k → Agree L M k) (λ k ih w n h.
+        let below : (j : Key) → Lt j k → Agree L M j = λ j lt. ih j lt (within-below B j k (lt-le j k lt) w) in
+        (half L M x y k below w n h, half M L y x k (λ j lt m g. ((below j lt m g) .1, (below j lt m g) .0)) w n h))
 
     -- Two solutions up to the same key have the same entries up to it.
     pub unique : (L M : Entries S) → Explores S B L → Explores S B M → (n : S .Node) (k : Key) (h : S .Hints) → Within B k → L n k h → M n k h
