@@ -1,3 +1,4 @@
--- What is proved of the definitions in specs/.
+-- The theorems about the definitions of specs/.
 pub mod bits
 pub mod logic
+pub mod exploration
