@@ -1,5 +1,6 @@
 -- The theorems about the definitions of specs/.
 pub mod bits
 pub mod logic
+pub mod task
 pub mod exploration
 pub mod job

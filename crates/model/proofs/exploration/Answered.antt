@@ -27,7 +27,7 @@ module _ (S : System) where
   plan-unique {c = c} {d = d} {p = p} {q = q} x y =
       let k : x .key ≡ y .key = le-antisym _ _ (x .least (path-end S (y .path)) (y .goal)) (y .least (path-end S (x .path)) (x .goal)) in
       let a : c ≡ d = sym (x .costIs) ∙ ap (λ (z : Key). z .cost) k ∙ y .costIs in
-      let b : p ≡ q = first-antisym S p q (x .first (path-cast S refl refl (sym k) (y .path)) (y .goal)) (y .first (path-cast S refl refl k (x .path)) (x .goal)) in
+      let b : p ≡ q = first-antisym p q (x .first (path-cast S refl refl (sym k) (y .path)) (y .goal)) (y .first (path-cast S refl refl k (x .path)) (x .goal)) in
       λ i. plan (a i) (b i)
 
   no-goal-plan : {L : Entries S} {c : ℕ} {p : List ℕ} → NoGoal S L → Plan S L c p → ⊥

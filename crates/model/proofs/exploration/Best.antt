@@ -6,9 +6,9 @@ use mathlib.Core.Option.{Option, none, some}
 use mathlib.Core.List.{List, [], _∷_, List·Memᴰ, List·Memᴰ·head as here, List·Memᴰ·tail as there}
 use mathlib.Core.Logic.{inl, inr}
 use lib.ListN.{length}
-use Rattle.model.specs.exploration.Key.{Key, Le, Lt, less, earlier}
+use Rattle.model.specs.exploration.Key.{Key, Le, Lt, less, earlier, First}
 use Rattle.model.specs.exploration.System.{System}
-use Rattle.model.specs.exploration.Equations.{Uncut, Path, First, Plan, Answers, with-plan, some-cut, none-cut}
+use Rattle.model.specs.exploration.Equations.{Uncut, Path, Plan, Answers, with-plan, some-cut, none-cut}
 use Rattle.model.specs.exploration.Explore.{Entry, isCut, better, bestGoal, someCut, answer}
 use Rattle.model.proofs.exploration.KeyLaws.{le-refl, le-trans, lt-le, not-below, le-antisym, less-yes, less-no, first-total, first-trans}
 use Rattle.model.proofs.exploration.Each.{All, all-map, all-at, all-mem}
@@ -23,10 +23,10 @@ module _ (S : System) where
 
   -- of less key, or of the same key and with the first path
   abbrev Beats : Entry S → Entry S → Type 0
-  Beats x y = Le (x .key) (y .key) × (x .key ≡ y .key → First S (x .path) (y .path))
+  Beats x y = Le (x .key) (y .key) × (x .key ≡ y .key → First (x .path) (y .path))
 
   beats-trans : (x y z : Entry S) → Beats x y → Beats y z → Beats x z
-  beats-trans x y z a b = (le-trans _ _ _ (a .0) (b .0), λ e. first-trans S _ _ _ (a .1 (xy e)) (b .1 (sym (xy e) ∙ e)))
+  beats-trans x y z a b = (le-trans _ _ _ (a .0) (b .0), λ e. first-trans _ _ _ (a .1 (xy e)) (b .1 (sym (xy e) ∙ e)))
     where
       xy : x .key ≡ z .key → x .key ≡ y .key
       xy e = le-antisym _ _ (a .0) (subst (Le (y .key)) (sym e) (b .0))
@@ -61,7 +61,7 @@ module _ (S : System) where
       go true q r e f h = rw (e, better) (x-wins (lower-beats x y (less-yes _ _ e)))
       go false true r e f h = rw (e, f, better) (y-wins (lower-beats y x (less-yes _ _ f)))
       go false false true e f h = rw (e, f, h, better) (x-wins (less-no _ _ f, λ k. inr h))
-      go false false false e f h = rw (e, f, h, better) (y-wins (less-no _ _ e, λ k. first-total S (y .path) (x .path) (lengths k) h))
+      go false false false e f h = rw (e, f, h, better) (y-wins (less-no _ _ e, λ k. first-total (y .path) (x .path) (lengths k) h))
 
   best-goal : (L : List (Entry S)) → All (λ y. AtGoal y → Sized S y) L → BestOf L (bestGoal S L)
   unfolding bestGoal
@@ -96,7 +96,7 @@ module _ (S : System) where
   -- ---- the answer
 
   module _ (M : List (Entry S)) (paths : (e : Entry S) → List·Memᴰ e M → isCut S e ≡ false → Path S (Of S M) (e .path) (e .node) (e .key))
-      (firsts : (e : Entry S) → List·Memᴰ e M → (q : List ℕ) → Path S (Of S M) q (e .node) (e .key) → First S (e .path) q) where
+      (firsts : (e : Entry S) → List·Memᴰ e M → (q : List ℕ) → Path S (Of S M) q (e .node) (e .key) → First (e .path) q) where
     -- the entry of an uncut goal node
     goal-entry : {n : S .Node} {k : Key} (u : Uncut S (Of S M) n k) → S .goal n ≡ true → AtGoal (u .1 .0)
     goal-entry u g = (ap (S .goal) (u .1 .2) ∙ g, ap (S .cut) (u .1 .4) ∙ u .2)
@@ -105,12 +105,12 @@ module _ (S : System) where
       best-least : {n : S .Node} {k : Key} → Uncut S (Of S M) n k → S .goal n ≡ true → Le (e .key) k
       best-least u g = subst (Le (e .key)) (u .1 .3) ((all-at _ M (u .1 .1) (best .2) (goal-entry u g)) .0)
 
-      best-first : {q : List ℕ} {n : S .Node} → Path S (Of S M) q n (e .key) → S .goal n ≡ true → First S (e .path) q
+      best-first : {q : List ℕ} {n : S .Node} → Path S (Of S M) q n (e .key) → S .goal n ≡ true → First (e .path) q
       best-first {q} r g =
           let u = path-end S r in
           let y = u .1 .0 in
-          let f : First S (e .path) (y .path) = (all-at _ M (u .1 .1) (best .2) (goal-entry u g)) .1 (sym (u .1 .3)) in
-          first-trans S _ _ _ f (firsts y (u .1 .1) q (path-cast S refl (sym (u .1 .2)) (sym (u .1 .3)) r))
+          let f : First (e .path) (y .path) = (all-at _ M (u .1 .1) (best .2) (goal-entry u g)) .1 (sym (u .1 .3)) in
+          first-trans _ _ _ f (firsts y (u .1 .1) q (path-cast S refl (sym (u .1 .2)) (sym (u .1 .3)) r))
 
       plan-of-best : Plan S (Of S M) (e .key .cost) (e .path)
       plan-of-best = record {

@@ -6,9 +6,9 @@ use mathlib.Core.Option.{Option, none, some}
 use mathlib.Core.List.{List, [], _∷_, _++_, List·Memᴰ, List·Memᴰ·not-nil}
 use mathlib.Core.Logic.{_⊎_, inl, inr}
 use lib.ListN.{length}
-use Rattle.model.specs.exploration.Key.{Key, extend, Lt}
+use Rattle.model.specs.exploration.Key.{Key, extend, Lt, First}
 use Rattle.model.specs.exploration.System.{System}
-use Rattle.model.specs.exploration.Equations.{Starts, Uncut, Path, begin, onward, First}
+use Rattle.model.specs.exploration.Equations.{Starts, Uncut, Path, begin, onward}
 use Rattle.model.specs.exploration.Explore.{Entry, isCut, arrivals, startEntry, reached}
 use Rattle.model.proofs.exploration.KeyLaws.{extend-lt, extend-not-zero, key-ind, first-trans, first-snoc}
 use Rattle.model.proofs.exploration.Laws.{Laws, Finite}
@@ -51,7 +51,7 @@ module _ (S : System) (laws : Laws S) (m0 : S .Node) (starts : Starts S m0) (M :
 
   -- ---- and the first of its node and key
 
-  first : {q : List ℕ} {n : S .Node} {k : Key} → Path S (Of S M) q n k → (e : Entry S) → List·Memᴰ e M → e .node ≡ n → e .key ≡ k → First S (e .path) q
+  first : {q : List ℕ} {n : S .Node} {k : Key} → Path S (Of S M) q n k → (e : Entry S) → List·Memᴰ e M → e .node ≡ n → e .key ≡ k → First (e .path) q
   unfolding startEntry
   first (begin {n = n} s u) e m a b =
       let at-start : n ≡ m0 = cc in
@@ -59,16 +59,16 @@ module _ (S : System) (laws : Laws S) (m0 : S .Node) (starts : Starts S m0) (M :
       inl (ap (λ (z : Entry S). z .path) p)
   first (onward {p = p} {m = o} {n = n} {k = k} i r bound s u) e m a b = go (all-at _ M m (inv .founded)) (path-end S r) (λ d l x y. first r d l x y)
     where
-      go : (e ≡ startEntry S m0) ⊎ Gathered S (arrivals S M) e → Uncut S (Of S M) o k → ((d : Entry S) → List·Memᴰ d M → d .node ≡ o → d .key ≡ k → First S (d .path) p)
-          → First S (e .path) (p ++ (i ∷ []))
+      go : (e ≡ startEntry S m0) ⊎ Gathered S (arrivals S M) e → Uncut S (Of S M) o k → ((d : Entry S) → List·Memᴰ d M → d .node ≡ o → d .key ≡ k → First (d .path) p)
+          → First (e .path) (p ++ (i ∷ []))
       go (inl z) v ih = absurd (extend-not-zero k (S .cost i) (sym b ∙ ap (λ (z : Entry S). z .key) z))
       go (inr g) v ih =
           let d = v .1 .0 in
           let step : S .step (d .node) i ≡ some n = ap (λ (z : S .Node). S .step z i) (v .1 .2) ∙ s in
-          let f : First S (e .path) (d .path ++ (i ∷ [])) = arrivals-at S (λ x. At S e x → First S (e .path) (x .path)) M (g .first) (v .1 .1) (ap (S .cut) (v .1 .4) ∙ v .2) bound step
+          let f : First (e .path) (d .path ++ (i ∷ [])) = arrivals-at S (λ x. At S e x → First (e .path) (x .path)) M (g .first) (v .1 .1) (ap (S .cut) (v .1 .4) ∙ v .2) bound step
           (sym a, ap (λ (z : Key). extend z (S .cost i)) (v .1 .3) ∙ sym b) in
           let l : length (d .path) ≡ length p = (all-at _ M (v .1 .1) (inv .fit)) .1 ∙ ap (λ (z : Key). z .steps) (v .1 .3) ∙ path-steps S r in
-          first-trans S _ _ _ f (first-snoc S (d .path) p i l (ih d (v .1 .1) (v .1 .2) (v .1 .3)))
+          first-trans _ _ _ f (first-snoc (d .path) p i l (ih d (v .1 .1) (v .1 .2) (v .1 .3)))
 
 module _ (S : System) (laws : Laws S) (fin : Finite S) where
   -- The path of an uncut entry is a path to its node with its key,
@@ -80,7 +80,7 @@ module _ (S : System) (laws : Laws S) (fin : Finite S) where
       go (some m0) s = whole S laws m0 s (reached S) ((reached-inv S laws fin s) .0) (e .key) e m refl c
 
   -- and the first of all these.
-  pub reached-first : (e : Entry S) → List·Memᴰ e (reached S) → (q : List ℕ) → Path S (Of S (reached S)) q (e .node) (e .key) → First S (e .path) q
+  pub reached-first : (e : Entry S) → List·Memᴰ e (reached S) → (q : List ℕ) → Path S (Of S (reached S)) q (e .node) (e .key) → First (e .path) q
   reached-first e m q r =
       let s = path-run S r in
       first S laws (s .0) (s .1) (reached S) ((reached-inv S laws fin (s .1)) .0) r e m refl refl

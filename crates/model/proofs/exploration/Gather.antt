@@ -5,9 +5,8 @@ use mathlib.Core.Bool.{Bool, true, false, _&&_, true≢false}
 use mathlib.Core.List.{List, [], _∷_}
 use mathlib.Core.Logic.{inl, _↔_}
 use lib.ListN.{length}
-use Rattle.model.specs.exploration.Key.{Key, sameKey, firstOf}
+use Rattle.model.specs.exploration.Key.{Key, sameKey, firstOf, First}
 use Rattle.model.specs.exploration.System.{System}
-use Rattle.model.specs.exploration.Equations.{First}
 use Rattle.model.specs.exploration.Explore.{Entry, alike, merge, gather}
 use Rattle.model.proofs.exploration.KeyLaws.{same-key, same-key-refl, first-trans, firstOf-is, firstOf-first}
 use Rattle.model.proofs.exploration.Laws.{Laws}
@@ -106,18 +105,18 @@ module _ (S : System) where
 
     -- and the first of them.
     pub gather-first : (c : Entry S) (xs : List (Entry S)) → Fit c → All Fit xs
-        → First S (gather S c xs .path) (c .path) × All (λ x. At c x → First S (gather S c xs .path) (x .path)) xs
+        → First (gather S c xs .path) (c .path) × All (λ x. At c x → First (gather S c xs .path) (x .path)) xs
     unfolding gather merge
     gather-first c [] a h = (inl refl, tt)
     gather-first c (x ∷ xs) a h = go (alike S c x) refl (λ b. gather-first (merge S c x) xs b (h .1)) (gather-first c xs a (h .1))
       where
         go : (b : Bool) → alike S c x ≡ b
-            → (Fit (merge S c x) → First S (gather S (merge S c x) xs .path) (firstOf (c .path) (x .path)) × All (λ z. At c z → First S (gather S (merge S c x) xs .path) (z .path)) xs)
-            → First S (gather S c xs .path) (c .path) × All (λ z. At c z → First S (gather S c xs .path) (z .path)) xs
-            → First S (gather S c (x ∷ xs) .path) (c .path) × All (λ z. At c z → First S (gather S c (x ∷ xs) .path) (z .path)) (x ∷ xs)
+            → (Fit (merge S c x) → First (gather S (merge S c x) xs .path) (firstOf (c .path) (x .path)) × All (λ z. At c z → First (gather S (merge S c x) xs .path) (z .path)) xs)
+            → First (gather S c xs .path) (c .path) × All (λ z. At c z → First (gather S c xs .path) (z .path)) xs
+            → First (gather S c (x ∷ xs) .path) (c .path) × All (λ z. At c z → First (gather S c (x ∷ xs) .path) (z .path)) (x ∷ xs)
         go true e s t =
             let q = alike-at c x e in
             let r = s (merge-fit c x q a (h .0)) in
-            let f = firstOf-first S (c .path) (x .path) (a .1 ∙ ap (λ (k : Key). k .steps) (sym (q .1)) ∙ sym (h .0 .1)) in
-            rw (e, gather) (first-trans S _ _ _ (r .0) (f .0), (λ q′. first-trans S _ _ _ (r .0) (f .1), r .1))
+            let f = firstOf-first (c .path) (x .path) (a .1 ∙ ap (λ (k : Key). k .steps) (sym (q .1)) ∙ sym (h .0 .1)) in
+            rw (e, gather) (first-trans _ _ _ (r .0) (f .0), (λ q′. first-trans _ _ _ (r .0) (f .1), r .1))
         go false e s t = rw (e, gather) (t .0, (λ q. absurd (true≢false (sym (at-alike c x q) ∙ e)), t .1))

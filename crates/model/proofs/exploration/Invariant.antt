@@ -6,9 +6,8 @@ use mathlib.Core.Bool.{Bool, true, false}
 use mathlib.Core.List.{List, [], _∷_, _++_, List·Memᴰ, List·Memᴰ·head as here, List·Memᴰ·tail as there, Memᴰ·append-right}
 use mathlib.Core.Logic.{_⊎_, inl, inr, _↔_}
 use lib.ListN.{length-append}
-use Rattle.model.specs.exploration.Key.{Key, zeroKey, extend, Le, Lt}
+use Rattle.model.specs.exploration.Key.{Key, zeroKey, extend, Le, Lt, First}
 use Rattle.model.specs.exploration.System.{System}
-use Rattle.model.specs.exploration.Equations.{First}
 use Rattle.model.specs.exploration.Explore.{Entry, isCut, moves, arrivals, known, frontier, least, gather, Explored, all-of, explore, startEntry}
 use Rattle.model.proofs.exploration.KeyLaws.{le-refl, le-trans, lt-le, le-lt-trans, not-below, extend-lt}
 use Rattle.model.proofs.exploration.Laws.{Laws}
@@ -25,7 +24,7 @@ module _ (S : System) where
   pub record Gathered (xs : List (Entry S)) (e : Entry S) : Type 0 where
     pub from : (x : Entry S) × List·Memᴰ x xs × At S e x × (e .path ≡ x .path)
     pub conjoined : (s : S .Setting) → (S .trueAt (e .hints) s ≡ true) ↔ All (λ x. At S e x → S .trueAt (x .hints) s ≡ true) xs
-    pub first : All (λ x. At S e x → First S (e .path) (x .path)) xs
+    pub first : All (λ x. At S e x → First (e .path) (x .path)) xs
 
   abbrev pub Distinct : List (Entry S) → Type 0
   Distinct [] = Unit {0}

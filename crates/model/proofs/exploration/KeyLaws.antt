@@ -9,9 +9,7 @@ use mathlib.Core.Logic.{_⊎_, inl, inr, _↔_}
 use lib.ListN.{length}
 use lib.Dec.{eqb, ltb}
 use borrow.Author.Tests.{ltb-true, ltb-false, eqb-true, eqb-false, lt-ltb, le-ltb, eq-eqb}
-use Rattle.model.specs.exploration.Key.{Key, zeroKey, extend, Le, Lt, less, sameKey, earlier, firstOf}
-use Rattle.model.specs.exploration.System.{System}
-use Rattle.model.specs.exploration.Equations.{First}
+use Rattle.model.specs.exploration.Key.{Key, zeroKey, extend, Le, Lt, less, sameKey, earlier, firstOf, First}
 
 -- ---- the order of keys
 
@@ -156,13 +154,13 @@ earlier-trans (a ∷ p) (b ∷ q) (c ∷ r) h k = (earlier-cons a c p r) .1 (go 
     go (inr l) (inr m) ih = inr (l .0 ∙ m .0, ih (l .1) (m .1))
 
 -- Of two sequences of equal length one is first.
-pub first-total : (S : System) (p q : List ℕ) → length p ≡ length q → earlier q p ≡ false → First S p q
-first-total S [] [] e n = inl refl
-first-total S [] (b ∷ q) e n = absurd (omega arith)
-first-total S (a ∷ p) [] e n = absurd (omega arith)
-first-total S (a ∷ p) (b ∷ q) e n = go (decLt a b) (decLt b a) (earlier q p) refl (first-total S p q (omega arith))
+pub first-total : (p q : List ℕ) → length p ≡ length q → earlier q p ≡ false → First p q
+first-total [] [] e n = inl refl
+first-total [] (b ∷ q) e n = absurd (omega arith)
+first-total (a ∷ p) [] e n = absurd (omega arith)
+first-total (a ∷ p) (b ∷ q) e n = go (decLt a b) (decLt b a) (earlier q p) refl (first-total p q (omega arith))
   where
-    go : Dec (a < b) → Dec (b < a) → (t : Bool) → earlier q p ≡ t → (earlier q p ≡ false → First S p q) → First S (a ∷ p) (b ∷ q)
+    go : Dec (a < b) → Dec (b < a) → (t : Bool) → earlier q p ≡ t → (earlier q p ≡ false → First p q) → First (a ∷ p) (b ∷ q)
     go (yes l) d t f ih = inr ((earlier-cons a b p q) .1 (inl l))
     go (no l) (yes m) t f ih = absurd (true≢false (sym ((earlier-cons b a q p) .1 (inl m)) ∙ n))
     go (no l) (no m) true f ih = absurd (true≢false (sym ((earlier-cons b a q p) .1 (inr (omega arith, f))) ∙ n))
@@ -171,19 +169,19 @@ first-total S (a ∷ p) (b ∷ q) e n = go (decLt a b) (decLt b a) (earlier q p)
         ab : a ≡ b
         ab = omega arith
 
-        same : First S p q → First S (a ∷ p) (b ∷ q)
+        same : First p q → First (a ∷ p) (b ∷ q)
         same (inl g) = inl (cc ab)
         same (inr g) = inr ((earlier-cons a b p q) .1 (inr (ab, g)))
 
-pub first-trans : (S : System) (p q r : List ℕ) → First S p q → First S q r → First S p r
-first-trans S p q r (inl e) h = subst (λ (z : List ℕ). First S z r) (sym e) h
-first-trans S p q r (inr a) (inl e) = inr (subst (λ (z : List ℕ). earlier p z ≡ true) e a)
-first-trans S p q r (inr a) (inr b) = inr (earlier-trans p q r a b)
+pub first-trans : (p q r : List ℕ) → First p q → First q r → First p r
+first-trans p q r (inl e) h = subst (λ (z : List ℕ). First z r) (sym e) h
+first-trans p q r (inr a) (inl e) = inr (subst (λ (z : List ℕ). earlier p z ≡ true) e a)
+first-trans p q r (inr a) (inr b) = inr (earlier-trans p q r a b)
 
-pub first-antisym : (S : System) (p q : List ℕ) → First S p q → First S q p → p ≡ q
-first-antisym S p q (inl e) h = e
-first-antisym S p q (inr a) (inl e) = sym e
-first-antisym S p q (inr a) (inr b) = absurd (true≢false (sym (earlier-trans p q p a b) ∙ earlier-irrefl p))
+pub first-antisym : (p q : List ℕ) → First p q → First q p → p ≡ q
+first-antisym p q (inl e) h = e
+first-antisym p q (inr a) (inl e) = sym e
+first-antisym p q (inr a) (inr b) = absurd (true≢false (sym (earlier-trans p q p a b) ∙ earlier-irrefl p))
 
 snoc-to : (p q : List ℕ) (a b : ℕ) → length p ≡ length q → earlier (p ++ (a ∷ [])) (q ++ (b ∷ [])) ≡ true → (earlier p q ≡ true) ⊎ ((p ≡ q) × (a < b))
 unfolding earlier
@@ -230,9 +228,9 @@ earlier-snoc p q a b e = (snoc-to p q a b e, from)
     from (inr h) = subst (λ (z : List ℕ). earlier (p ++ (a ∷ [])) (z ++ (b ∷ [])) ≡ true) (h .0) (snoc-last p a b (h .1))
 
 -- The same action keeps the order of two sequences.
-pub first-snoc : (S : System) (p q : List ℕ) (a : ℕ) → length p ≡ length q → First S p q → First S (p ++ (a ∷ [])) (q ++ (a ∷ []))
-first-snoc S p q a e (inl h) = inl (ap (λ (z : List ℕ). z ++ (a ∷ [])) h)
-first-snoc S p q a e (inr h) = inr ((earlier-snoc p q a a e) .1 (inl h))
+pub first-snoc : (p q : List ℕ) (a : ℕ) → length p ≡ length q → First p q → First (p ++ (a ∷ [])) (q ++ (a ∷ []))
+first-snoc p q a e (inl h) = inl (ap (λ (z : List ℕ). z ++ (a ∷ [])) h)
+first-snoc p q a e (inr h) = inr ((earlier-snoc p q a a e) .1 (inl h))
 
 -- What holds of two sequences holds of the first of them.
 pub firstOf-is : (P : List ℕ → Type 0) (p q : List ℕ) → P p → P q → P (firstOf p q)
@@ -243,10 +241,10 @@ firstOf-is P p q a b = go (earlier q p) refl
     go true e = rw (e, firstOf) b
     go false e = rw (e, firstOf) a
 
-pub firstOf-first : (S : System) (p q : List ℕ) → length p ≡ length q → First S (firstOf p q) p × First S (firstOf p q) q
+pub firstOf-first : (p q : List ℕ) → length p ≡ length q → First (firstOf p q) p × First (firstOf p q) q
 unfolding firstOf
-firstOf-first S p q l = go (earlier q p) refl
+firstOf-first p q l = go (earlier q p) refl
   where
-    go : (c : Bool) → earlier q p ≡ c → First S (firstOf p q) p × First S (firstOf p q) q
+    go : (c : Bool) → earlier q p ≡ c → First (firstOf p q) p × First (firstOf p q) q
     go true e = rw (e, firstOf) (inr e, inl refl)
-    go false e = rw (e, firstOf) (inl refl, first-total S p q l e)
+    go false e = rw (e, firstOf) (inl refl, first-total p q l e)

@@ -4,9 +4,9 @@ use Prim.Native.Nat.{ℕ, _≤_}
 use mathlib.Core.Bool.{Bool, true, false, true≢false}
 use mathlib.Core.List.{List, [], _∷_, _++_, append-nil, append-assoc}
 use mathlib.Core.Logic.{_⊎_, inl, inr}
-use Rattle.model.specs.exploration.Key.{Key, zeroKey, extend, Le, Lt}
+use Rattle.model.specs.exploration.Key.{Key, zeroKey, extend, Le, Lt, First}
 use Rattle.model.specs.exploration.System.{System}
-use Rattle.model.specs.exploration.Equations.{unbounded, Entries, Starts, Arrives, Explores, Uncut, Path, begin, onward, First, Plan, NoGoal}
+use Rattle.model.specs.exploration.Equations.{unbounded, Entries, Starts, Arrives, Explores, Uncut, Path, begin, onward, Plan, NoGoal}
 use Rattle.model.proofs.exploration.KeyLaws.{lt-le, le-lt-trans, not-below, le-antisym, lt-or-le, key-ind}
 use Rattle.model.proofs.exploration.Laws.{Laws, HintLaws}
 use Rattle.model.proofs.exploration.Uniqueness.{arrives-lt, start-only, away}
@@ -121,7 +121,7 @@ module _ (S : System) where
               least q j s = elim (lt-or-le j k) [ inl lt ↦ absurd (ih j lt (down j k lt b) q s) | inr le ↦ le ]
 
       -- The plan has the least key of all runs to a goal, and is the first of that key.
-      pub best-plan : {c : ℕ} {p : List ℕ} (y : Plan S L c p) (q : List ℕ) (j : Key) → GoalRun q j → Le (y .key) j × (y .key ≡ j → First S p q)
+      pub best-plan : {c : ℕ} {p : List ℕ} (y : Plan S L c p) (q : List ℕ) (j : Key) → GoalRun q j → Le (y .key) j × (y .key ≡ j → First p q)
       best-plan {c} {p} y q j r = (lower q j r, first)
         where
           lower : (q : List ℕ) (j : Key) → GoalRun q j → Le (y .key) j
@@ -130,7 +130,7 @@ module _ (S : System) where
             | inr le ↦ le
           ]
 
-          first : y .key ≡ j → First S p q
+          first : y .key ≡ j → First p q
           first e =
               let s = run-path (y .key) lower (kept-at (y .key) lower) q (subst (GoalRun q) (sym e) r) in
               y .first (s .1) (s .2)

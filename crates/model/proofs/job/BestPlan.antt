@@ -10,9 +10,9 @@ use lib.ListN.{length}
 use Rattle.model.specs.logic.Truth.{allHold}
 use Rattle.model.specs.job.Job.{Job}
 use Rattle.model.specs.task.Plan.{allowed, meetsHints, costOf, Worse, Best}
-use Rattle.model.specs.exploration.Key.{Key, Le, earlier}
+use Rattle.model.specs.exploration.Key.{Key, Le, earlier, First}
 use Rattle.model.specs.exploration.System.{System}
-use Rattle.model.specs.exploration.Equations.{unbounded, Answer, plan, no-plan, Entries, Explores, First, Plan, NoGoal, SomeCut, Answers, with-plan, some-cut, none-cut}
+use Rattle.model.specs.exploration.Equations.{unbounded, Answer, plan, no-plan, Entries, Explores, Plan, NoGoal, SomeCut, Answers, with-plan, some-cut, none-cut}
 use Rattle.model.specs.exploration.Explore.{reached}
 use Rattle.model.specs.search.Node.{someDead, sameNumbers}
 use Rattle.model.specs.search.JobSystem.{systemOf, solveJob}
@@ -83,7 +83,7 @@ module _ (j : Job) where
           other r = true≢false (sym (numbers-same p) ∙ ap (sameNumbers p) r ∙ e)
 
   -- A plan whose key is not above another's, and that is the first of equal keys, is better or the same.
-  first-worse : (p q : List ℕ) → Le (keyOf j p) (keyOf j q) → (keyOf j p ≡ keyOf j q → First (systemOf j) p q) → (p ≡ q → ⊥) → Worse j p q
+  first-worse : (p q : List ℕ) → Le (keyOf j p) (keyOf j q) → (keyOf j p ≡ keyOf j q → First p q) → (p ≡ q → ⊥) → Worse j p q
   first-worse p q le first other = go (decLt (costOf j p) (costOf j q)) (decLt (length p) (length q))
     where
       go : Dec (costOf j p < costOf j q) → Dec (length p < length q) → Worse j p q
@@ -97,7 +97,7 @@ module _ (j : Job) where
           l : length p ≡ length q
           l = omega (arith, le .1 c)
 
-          comes : First (systemOf j) p q → earlier p q ≡ true
+          comes : First p q → earlier p q ≡ true
           comes (inl e) = absurd (other e)
           comes (inr e) = e
 
@@ -141,9 +141,9 @@ module _ (j : Job) where
         own : (allowed j p ≡ true) × (y .key ≡ keyOf j p)
         own = plan-is-allowed y
 
-        before : (q : List ℕ) → allowed j q ≡ true → Le (keyOf j p) (keyOf j q) × (keyOf j p ≡ keyOf j q → First (systemOf j) p q)
+        before : (q : List ℕ) → allowed j q ≡ true → Le (keyOf j p) (keyOf j q) × (keyOf j p ≡ keyOf j q → First p q)
         before q a =
-            subst (λ (z : Key). Le z (keyOf j q) × (z ≡ keyOf j q → First (systemOf j) p q)) (own .1)
+            subst (λ (z : Key). Le z (keyOf j q) × (z ≡ keyOf j q → First p q)) (own .1)
             (best-plan (systemOf j) (job-laws j) (job-hints j proper) explored (kept meet) y q (keyOf j q) (allowed-run j proper q a))
 
     -- Where such a job has no plan, none is allowed.

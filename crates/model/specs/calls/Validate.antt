@@ -1,20 +1,18 @@
 -- The read-through on job bytes and step bytes. Nothing lent to it is written.
 use Prim.Native.Nat.{ℕ}
-use mathlib.Core.Bool.{Bool, true, false}
-use mathlib.Core.List.{List, [], _∷_}
+use mathlib.Core.List.{List}
 use lib.ListN.{length, take, getD}
 use lib.Dec.{ltb, leb}
-use Rattle.model.specs.declared.Refusal.{Refusal}
 use Rattle.model.specs.declared.Verdict.{Verdict}
 use Rattle.model.specs.declared.Verdict.the-variants.{Fine, Bad}
 use Rattle.model.specs.declared.Validated.{Validated}
 use Rattle.model.specs.declared.Validated.the-variants.{Passed, Refused}
 use Rattle.model.specs.Bits.{bitsOf}
-use Rattle.model.specs.Verdict.{refusal, unless, orElse, inTurn}
+use Rattle.model.specs.Verdict.{unless, orElse, inTurn}
 use Rattle.model.specs.logic.Formula.{Formula, constant}
 use Rattle.model.specs.declared.Constant.the-variants.{True}
 use Rattle.model.specs.logic.Truth.{holds}
-use Rattle.model.specs.job.Job.{Job, Action, actionOf}
+use Rattle.model.specs.job.Job.{Job, actionOf}
 use Rattle.model.specs.job.Layout.{jobOf}
 use Rattle.model.specs.job.Decoding.{jobVerdict}
 use Rattle.model.specs.task.State.{within, applicable}

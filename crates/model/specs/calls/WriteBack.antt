@@ -1,16 +1,15 @@
 -- A rule written back into a lent buffer.
 use Prim.Native.Nat.{ℕ}
-use mathlib.Core.Bool.{Bool, true, false, _&&_}
-use mathlib.Core.List.{List, [], _∷_}
+use mathlib.Core.Bool.{true, false, _&&_}
+use mathlib.Core.List.{List, []}
 use lib.ListN.{length}
 use lib.Dec.{leb}
-use Rattle.model.specs.declared.Refusal.{Refusal}
 use Rattle.model.specs.declared.Verdict.{Verdict}
 use Rattle.model.specs.declared.Verdict.the-variants.{Fine, Bad}
 use Rattle.model.specs.declared.Rewritten.{Rewritten}
 use Rattle.model.specs.declared.Rewritten.the-variants.{Written, Refused}
 use Rattle.model.specs.Verdict.{refusal, unless, orElse}
-use Rattle.model.specs.logic.Formula.{Formula, encode}
+use Rattle.model.specs.logic.Formula.{encode}
 use Rattle.model.specs.logic.Reading.{Parsed, formula, wrong, section}
 use Rattle.model.specs.logic.NormalForm.{nnf}
 use Rattle.model.specs.job.Decoding.{countsInRange, formulaVerdict}

@@ -1,11 +1,11 @@
 -- The section "Pairs and hints" of document 01 as equations that a set of entries satisfies, one field a sentence.
 use mathlib.Core.Path.{_≡_}
 use Prim.Native.Nat.{ℕ, _<_}
-use mathlib.Core.Bool.{Bool, true, false}
-use mathlib.Core.Option.{Option, some}
+use mathlib.Core.Bool.{true, false}
+use mathlib.Core.Option.{some}
 use mathlib.Core.Logic.{_⊎_, _↔_}
 use mathlib.Core.List.{List, [], _∷_, _++_}
-use Rattle.model.specs.exploration.Key.{Key, zeroKey, extend, Le, earlier}
+use Rattle.model.specs.exploration.Key.{Key, zeroKey, extend, Le, First}
 use Rattle.model.specs.exploration.System.{System}
 
 -- How far a set of entries is to go: all arrivals up to a key, or all.
@@ -72,10 +72,6 @@ module _ (S : System) where
     begin : {n : S .Node} → Starts n → Uncut L n zeroKey → Path L [] n zeroKey
     onward : {p : List ℕ} {m n : S .Node} {k : Key} (i : ℕ) → Path L p m k → i < S .actions → S .step m i ≡ some n
         → Uncut L n (extend k (S .cost i)) → Path L (p ++ (i ∷ [])) n (extend k (S .cost i))
-
-  -- p is q or comes before it
-  abbrev pub First : List ℕ → List ℕ → Type 0
-  First p q = (p ≡ q) ⊎ (earlier p q ≡ true)
 
   pub record Plan (L : Entries) (c : ℕ) (p : List ℕ) : Type 0 where
     pub node : S .Node

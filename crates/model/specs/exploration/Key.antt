@@ -2,6 +2,7 @@
 use mathlib.Core.Path.{_≡_}
 use Prim.Native.Nat.{ℕ, suc, _+_, _≤_, _<_}
 use mathlib.Core.Bool.{Bool, true, false}
+use mathlib.Core.Logic.{_⊎_}
 use mathlib.Core.List.{List, [], _∷_}
 use lib.Dec.{eqb, ltb}
 
@@ -46,3 +47,7 @@ earlier (a ∷ p) (b ∷ q) = elim (ltb a b) [
 unfoldable pub firstOf : List ℕ → List ℕ → List ℕ
 unfolding earlier
 firstOf p q = elim (earlier q p) [ true ↦ q | false ↦ p ]
+
+-- p is q or the earlier of the two
+abbrev pub First : List ℕ → List ℕ → Type 0
+First p q = (p ≡ q) ⊎ (earlier p q ≡ true)

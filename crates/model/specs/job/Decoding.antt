@@ -1,6 +1,6 @@
 -- The refusals 1 to 5, in the order of document 01's table.
 use Prim.Native.Nat.{ℕ, zero, suc, _+_, _-_, _*_, _^_}
-use mathlib.Core.Bool.{Bool, true, false, _&&_}
+use mathlib.Core.Bool.{Bool, _&&_}
 use mathlib.Core.List.{List, [], _∷_}
 use lib.ListN.{length, drop}
 use lib.Dec.{eqb, ltb, leb}
@@ -8,7 +8,6 @@ use Rattle.model.specs.declared.Verdict.{Verdict}
 use Rattle.model.specs.declared.Verdict.the-variants.{Fine, Bad}
 use Rattle.model.specs.Bits.{numberAt}
 use Rattle.model.specs.Verdict.{refusal, unless, orElse, inTurn}
-use Rattle.model.specs.logic.Formula.{Formula}
 use Rattle.model.specs.logic.Reading.{Parsed, formula, wrong}
 use Rattle.model.specs.logic.Parts.{Part, partsOf}
 use Rattle.model.specs.job.Layout.{factCount, actionCount, constraintCount, hintCount, pairCount, pairOffset, pairLength, actionOffset, formulaIn}

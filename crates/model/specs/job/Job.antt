@@ -1,7 +1,7 @@
 -- What a job stands for.
 use Prim.Native.Nat.{ℕ, zero, suc}
 use mathlib.Core.List.{List, [], _∷_, _++_}
-use lib.ListN.{length, getD}
+use lib.ListN.{getD}
 use Rattle.model.specs.logic.Formula.{Formula}
 
 -- Document 01 calls an action a step: needed, added and deleted facts as bits of a number, and the cost.

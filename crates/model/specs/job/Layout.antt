@@ -1,8 +1,8 @@
 -- Where a job's bytes have what; "offsets count from the job's start".
-use Prim.Native.Nat.{ℕ, zero, suc, _+_, _*_}
+use Prim.Native.Nat.{ℕ, _+_, _*_}
 use mathlib.Core.List.{List}
 use lib.ListN.{take, drop, getD}
-use Rattle.model.specs.Bits.{number, numberAt}
+use Rattle.model.specs.Bits.{numberAt}
 use Rattle.model.specs.logic.Formula.{Formula, constant}
 use Rattle.model.specs.logic.Reading.{Parsed, formula, wrong, section}
 use Rattle.model.specs.declared.Constant.the-variants.{False}

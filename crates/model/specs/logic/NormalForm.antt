@@ -1,10 +1,7 @@
 -- Positive normal form: what a rule is written back as.
 use mathlib.Core.Bool.{Bool, true, false, _&&_}
-use Rattle.model.specs.declared.Constant.{Constant}
 use Rattle.model.specs.declared.Constant.the-variants.{False, True, Last}
-use Rattle.model.specs.declared.Unary.{Unary}
 use Rattle.model.specs.declared.Unary.the-variants.{Not, Next, Eventually, Always}
-use Rattle.model.specs.declared.Binary.{Binary}
 use Rattle.model.specs.declared.Binary.the-variants.{And, Or, Until, Release}
 use Rattle.model.specs.logic.Formula.{Formula, constant, fact, action, unary, binary}
 

@@ -4,15 +4,12 @@ use Prim.Native.Nat.{ℕ, suc, _+_, _^_}
 use mathlib.Core.Bool.{Bool, true, false, not, _&&_, _||_}
 use mathlib.Core.List.{List, [], _∷_}
 use lib.Dec.{eqb}
-use Rattle.model.specs.declared.Constant.{Constant}
 use Rattle.model.specs.declared.Constant.the-variants.{False, True, Last}
-use Rattle.model.specs.declared.Unary.{Unary}
 use Rattle.model.specs.declared.Unary.the-variants.{Not, Next, Eventually, Always}
-use Rattle.model.specs.declared.Binary.{Binary}
 use Rattle.model.specs.declared.Binary.the-variants.{And, Or, Until, Release}
 use Rattle.model.specs.Bits.{bit, ofBits, bitsOf}
 use Rattle.model.specs.logic.Formula.{Formula, constant, fact, action, unary, binary}
-use Rattle.model.specs.logic.Parts.{count, Part, partsOf}
+use Rattle.model.specs.logic.Parts.{count, Part}
 use Rattle.model.specs.logic.Truth.{World, isMade, holds}
 
 -- "A remainder is a truth function of the rule's carried parts. Each part stands in it as an unknown": the truth of what a formula leaves

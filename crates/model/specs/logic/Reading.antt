@@ -1,6 +1,5 @@
 -- A formula read from the bytes of its section; refusal 4. Positions count from the section's start.
 use Prim.Native.Nat.{ℕ, zero, suc, _+_, _-_}
-use mathlib.Core.Bool.{Bool, true, false}
 use mathlib.Core.List.{List}
 use lib.ListN.{length, getD}
 use lib.Dec.{ltb, eqb}

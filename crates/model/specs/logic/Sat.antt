@@ -2,15 +2,12 @@
 -- wi is meant. The list of worlds is w0 to wn, so n + 1 is its length.
 use mathlib.Core.Path.{_≡_}
 use Prim.Native.Nat.{ℕ, suc, _≤_, _<_}
-use mathlib.Core.Bool.{Bool, true}
+use mathlib.Core.Bool.{true}
 use mathlib.Core.Option.{none}
 use mathlib.Core.List.{List}
 use lib.ListN.{length, getD}
-use Rattle.model.specs.declared.Constant.{Constant}
 use Rattle.model.specs.declared.Constant.the-variants.{False, True, Last}
-use Rattle.model.specs.declared.Unary.{Unary}
 use Rattle.model.specs.declared.Unary.the-variants.{Not, Next, Eventually, Always}
-use Rattle.model.specs.declared.Binary.{Binary}
 use Rattle.model.specs.declared.Binary.the-variants.{And, Or, Until, Release}
 use Rattle.model.specs.Bits.{bit}
 use Rattle.model.specs.logic.Formula.{Formula, constant, fact, action, unary, binary}

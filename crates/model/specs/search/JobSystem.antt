@@ -3,11 +3,10 @@ use mathlib.Core.Path.{_≡_}
 use Prim.Native.Nat.{ℕ, _*_, _^_, _<_}
 use mathlib.Core.Bool.{Bool, true, false}
 use mathlib.Core.Option.{Option, none, some}
-use mathlib.Core.List.{List, [], _∷_}
+use mathlib.Core.List.{List}
 use lib.ListN.{length, getD}
 use Rattle.model.specs.Bits.{bit}
-use Rattle.model.specs.logic.Truth.{World}
-use Rattle.model.specs.job.Job.{Job, Action, actionOf}
+use Rattle.model.specs.job.Job.{Job, actionOf}
 use Rattle.model.specs.task.State.{within, applicable, after}
 use Rattle.model.specs.exploration.System.{System}
 use Rattle.model.specs.exploration.Equations.{Answer}

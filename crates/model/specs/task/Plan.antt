@@ -7,9 +7,8 @@ use mathlib.Core.Logic.{_⊎_}
 use mathlib.Core.List.{List, [], _∷_}
 use lib.ListN.{length}
 use lib.Dec.{ltb}
-use Rattle.model.specs.logic.Formula.{Formula}
-use Rattle.model.specs.logic.Truth.{World, holds, allHold}
-use Rattle.model.specs.job.Job.{Action, Job, actionOf}
+use Rattle.model.specs.logic.Truth.{World, allHold}
+use Rattle.model.specs.job.Job.{Job, actionOf}
 use Rattle.model.specs.task.State.{within, applicable, after}
 use Rattle.model.specs.exploration.Key.{earlier}
 
