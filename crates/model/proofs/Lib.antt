@@ -1,0 +1,3 @@
+-- What is proved of the definitions in specs/.
+pub mod bits
+pub mod logic

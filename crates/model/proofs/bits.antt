@@ -1,0 +1,4 @@
+-- Laws of bits (specs/Bits.antt).
+pub mod Bits
+pub mod BitsOf
+pub mod Bitwise

@@ -1,0 +1,10 @@
+-- Laws of formulas (specs/logic): truth, progression, normal form, reading.
+pub mod TruthLaws
+pub mod SatLaws
+pub mod PartsLaws
+pub mod ProgressionLaws
+pub mod ResidualLaws
+pub mod NnfLaws
+pub mod Codes
+pub mod ReadingLaws
+pub mod EncodingLaws
