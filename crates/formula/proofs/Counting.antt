@@ -15,7 +15,7 @@ use Rattle.model.specs.Verdict.{refusal}
 use Rattle.model.specs.logic.Formula.{Formula, constant, fact, action, unary, binary, choose}
 use Rattle.model.specs.logic.Parts.{Part, parts, partsOf, temporal, size, count}
 use Rattle.model.specs.job.Decoding.{partsVerdict}
-use Rattle.formula.specs.Extent.{note, seenIn}
+use Rattle.formula.specs.Extent.{none, note, seenIn}
 use Rattle.formula.specs.declared.Seen.{Seen}
 
 -- the parts of a list noted one after the other
@@ -23,6 +23,7 @@ unfoldable see : Seen → List Part → Seen
 see s [] = s
 see s (p ∷ ps) = see (note s (p .position)) ps
 
+-- two lists are noted in turn
 see-append : (s : Seen) (ps qs : List Part) → see s (ps ++ qs) ≡ see (see s ps) qs
 unfolding see
 see-append s [] qs = refl
@@ -43,13 +44,14 @@ seen-next (binary Or φ ψ) s at = refl
 seen-next (binary Until φ ψ) s at = refl
 seen-next (binary Release φ ψ) s at = refl
 
+-- and so it is among the parts of a next
 see-next : (b : Bool) (p : Part) (s : Seen) (xs ys : List Part) {x y : Seen} → see s ys ≡ y → see (note s (p .position)) xs ≡ x
     → see s (elim b [ true ↦ ys | false ↦ p ∷ xs ]) ≡ choose b y x
 unfolding see
 see-next true p s xs ys e f = e
 see-next false p s xs ys e f = f
 
--- what is seen in a formula are its parts, however they are numbered
+-- what is seen in a formula are its parts, numbered from any n
 abbrev SeenParts : Formula → Type 0
 SeenParts φ = (s : Seen) (n at : ℕ) → see s (parts φ n at) ≡ seenIn φ false s at
 
@@ -58,6 +60,7 @@ in-turn : (φ ψ : Formula) → SeenParts φ → SeenParts ψ → (s : Seen) (n 
     → see s (parts φ n at ++ parts ψ m bt) ≡ seenIn ψ false (seenIn φ false s at) bt
 in-turn φ ψ e f s n at m bt = see-append s (parts φ n at) (parts ψ m bt) ∙ ap (λ (x : Seen). see x (parts ψ m bt)) (e s n at) ∙ f (seenIn φ false s at) m bt
 
+-- that holds of every formula
 seen-parts : (φ : Formula) → SeenParts φ
 unfolding parts see seenIn
 seen-parts (constant c) s n at = refl
@@ -103,6 +106,6 @@ see-seventh o (suc j) k z (p ∷ ps) e =
     ap (λ (x : Seen). seenVerdict o (see x ps)) (note-more k z (p .position) (omega arith)) ∙ see-seventh o j (k + 1) z ps (omega arith)
 
 -- what is seen in a whole formula decides refusal 5
-pub seen-verdict : (o : ℕ) (φ : Formula) → seenVerdict o (seenIn φ false (record { parts = 0; seventh = 0 }) 0) ≡ partsVerdict o (partsOf φ)
+pub seen-verdict : (o : ℕ) (φ : Formula) → seenVerdict o (seenIn φ false none 0) ≡ partsVerdict o (partsOf φ)
 unfolding partsVerdict partsOf
-seen-verdict o φ = ap (seenVerdict o) (sym (seen-parts φ (record { parts = 0; seventh = 0 }) 0 0)) ∙ see-seventh o 6 0 0 (parts φ 0 0) refl
+seen-verdict o φ = ap (seenVerdict o) (sym (seen-parts φ none 0 0)) ∙ see-seventh o 6 0 0 (parts φ 0 0) refl
