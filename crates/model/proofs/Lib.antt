@@ -4,3 +4,4 @@ pub mod logic
 pub mod task
 pub mod exploration
 pub mod job
+pub mod Examples

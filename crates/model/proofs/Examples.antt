@@ -1,0 +1,50 @@
+-- The definitions evaluated on small jobs: that they compute, and say what a reader expects.
+use mathlib.Core.Path.{_≡_, refl}
+use Prim.Native.Nat.{ℕ}
+use mathlib.Core.List.{List, [], _∷_, map}
+use Rattle.model.specs.declared.Verdict.the-variants.{Fine, Bad}
+use Rattle.model.specs.declared.Validated.the-variants.{Passed, Refused}
+use Rattle.model.specs.declared.Searched.the-variants.{Refused as NotFound}
+use Rattle.model.specs.Verdict.{refusal}
+use Rattle.model.specs.Cases.{P, P-rule, P-hint}
+use Rattle.model.specs.job.Decoding.{jobVerdict}
+use Rattle.model.specs.job.Layout.{jobOf}
+use Rattle.model.specs.search.JobSystem.{reachedCount}
+use Rattle.model.specs.calls.Search.{ruled}
+use Rattle.model.specs.calls.Validate.{validated}
+
+-- read-throughs of job P: passed, with cost 16; not applicable; no such step; the goal is missing; the rule is not met; the hint is met
+read-throughs : map (λ (p : List ℕ). validated P p) ((0 ∷ 1 ∷ 2 ∷ []) ∷ (0 ∷ 2 ∷ []) ∷ (0 ∷ 3 ∷ []) ∷ (0 ∷ 1 ∷ []) ∷ [])
+    ≡ Passed 16 0 ∷ Refused (refusal 7 1) ∷ Refused (refusal 6 1) ∷ Refused (refusal 8 0) ∷ []
+unfolding validated P
+read-throughs = refl
+
+read-rule : validated (P-rule (0x23 ∷ 0x10 ∷ 0x04 ∷ 0x00 ∷ 0x04 ∷ 0x01 ∷ [])) (0 ∷ 1 ∷ 2 ∷ []) ≡ Refused (refusal 9 0)
+unfolding validated P-rule
+read-rule = refl
+
+read-hint : validated (P-hint (0x21 ∷ 0x04 ∷ 0x00 ∷ [])) (0 ∷ 1 ∷ 2 ∷ []) ≡ Passed 16 1
+unfolding validated P-hint
+read-hint = refl
+
+-- six times 20, then 03 00: accepted; seven times: 5, at the byte 03
+six-nexts : jobVerdict (P-rule (0x20 ∷ 0x20 ∷ 0x20 ∷ 0x20 ∷ 0x20 ∷ 0x20 ∷ 0x03 ∷ 0x00 ∷ [])) ≡ Fine
+unfolding jobVerdict P-rule
+six-nexts = refl
+
+seven-nexts : jobVerdict (P-rule (0x20 ∷ 0x20 ∷ 0x20 ∷ 0x20 ∷ 0x20 ∷ 0x20 ∷ 0x20 ∷ 0x03 ∷ 0x00 ∷ [])) ≡ Bad (refusal 5 113)
+unfolding jobVerdict P-rule
+seven-nexts = refl
+
+empty-job : jobVerdict [] ≡ Bad (refusal 1 0)
+unfolding jobVerdict
+empty-job = refl
+
+-- job P reaches five nodes; a plan buffer of two bytes is too short for its plan
+five-nodes : reachedCount (jobOf P) ≡ 5
+unfolding reachedCount jobOf P
+five-nodes = refl
+
+short-buffer : ruled P (7 ∷ []) (9 ∷ 9 ∷ []) ≡ record { result = NotFound (refusal 13 3); table = 0 ∷ []; plan = 9 ∷ 9 ∷ [] }
+unfolding ruled P
+short-buffer = refl
