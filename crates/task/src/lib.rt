@@ -1,6 +1,9 @@
 // Actions, states and keys as values: what an action does to a state, and how keys of paths compare.
 ghost use mathlib.Core.Path.{_≡_};
 ghost use Prim.Native.Nat.{_+_, _<_, _^_};
+ghost use lib.ListN.{length, getD};
+ghost use mathlib.Core.List.{map};
+ghost use Rattle.model.specs.job.Job.{noAction};
 ghost use Rattle.model.specs.task.State.{within, applicable, after};
 ghost use Rattle.model.specs.exploration.Key.{extend, less, sameKey};
 ghost use Rattle.task.specs.Meaning.{actionIs, keyIs};
@@ -30,7 +33,9 @@ impl State {
         ensures { λ r. ⌜ r .facts ≡ after (actionIs a) (self .facts) ⌝ }
     {
         let kept = self.facts - (self.facts & a.del);
-        State { facts: kept | a.add }
+        State {
+            facts: kept | a.add,
+        }
     }
 
     pub fn has(self, goal: u64) -> bool
@@ -81,4 +86,13 @@ impl Key {
             false
         }
     }
+}
+
+// One action of a lent list, which is read and never written. A slice of structs is not covered by the borrow checker, so this is the only function
+// over one, and its proof is a walk by hand.
+pub fn action_at(actions: &[Action], i: usize) -> Action
+    requires { ⌜ i < length (now actions) ⌝ }
+    ensures { λ r. ⌜ actionIs r ≡ getD (map actionIs (now (actions .entry))) i noAction ⌝ }
+{
+    actions[i]
 }
