@@ -1,6 +1,7 @@
 // Actions, states and keys as values: what an action does to a state, and how keys of paths compare.
 ghost use mathlib.Core.Path.{_≡_};
-ghost use Prim.Native.Nat.{_+_, _<_, _^_};
+ghost use Prim.Native.Nat.{_+_, _-_, _<_, _^_};
+ghost use lib.Bits.{bitAnd};
 ghost use lib.ListN.{length, getD};
 ghost use mathlib.Core.List.{map};
 ghost use Rattle.model.specs.job.Job.{noAction};
@@ -14,6 +15,13 @@ pub struct Action {
     pub add: u64,
     pub del: u64,
     pub cost: u64,
+}
+
+// The facts of xs that are none of ys.
+fn without(xs: u64, ys: u64) -> u64
+    ensures { λ r. ⌜ r ≡ xs - bitAnd xs ys ⌝ }
+{
+    xs - (xs & ys)
 }
 
 // The facts that are true.
@@ -32,9 +40,9 @@ impl State {
     pub fn after(self, a: Action) -> State
         ensures { λ r. ⌜ r .facts ≡ after (actionIs a) (self .facts) ⌝ }
     {
-        let kept = self.facts - (self.facts & a.del);
+        let add = a.add;
         State {
-            facts: kept | a.add,
+            facts: without(self.facts, a.del) | add,
         }
     }
 
@@ -80,11 +88,7 @@ impl Key {
     pub fn same(self, other: Key) -> bool
         ensures { λ r. ⌜ r ≡ sameKey (keyIs self) (keyIs other) ⌝ }
     {
-        if self.cost == other.cost {
-            self.steps == other.steps
-        } else {
-            false
-        }
+        self.cost == other.cost && self.steps == other.steps
     }
 }
 

@@ -1,6 +1,5 @@
 -- `Key::same` meets its contract.
 use mathlib.Core.Path.{_≡_}
-use mathlib.Core.Bool.{false}
 use lib.Dec.{eqb}
 use borrow.Author.Tests.{eq-eqb, ne-eqb}
 use Rattle.model.specs.exploration.Key.{Key, sameKey}
@@ -11,7 +10,7 @@ by-steps : (j k : Key) → j .cost ≡ k .cost → eqb (j .steps) (k .steps) ≡
 unfolding sameKey
 by-steps j k e = rw (eq-eqb (j .cost) (k .cost) e, sameKey)
 
-apart : (j k : Key) → (j .cost ≡ k .cost → ⊥) → false ≡ sameKey j k
+apart : (j k : Key) → (j .cost ≡ k .cost → ⊥) → eqb (j .cost) (k .cost) ≡ sameKey j k
 unfolding sameKey
 apart j k n = rw (ne-eqb (j .cost) (k .cost) n, sameKey)
 
