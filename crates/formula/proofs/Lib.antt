@@ -1,0 +1,3 @@
+-- What the proofs of the reader use.
+pub mod Codes
+pub mod Reading
