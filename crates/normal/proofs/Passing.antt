@@ -1,6 +1,7 @@
 -- Going past a node: what is known of it once its heading is dealt with, what its operands ask, and where it ends.
 use mathlib.Core.Path.{_≡_, refl, sym, ap, ap₂, _∙_, subst, subst⁻¹}
 use mathlib.Core.Bool.{Bool, true, false}
+use mathlib.Core.Logic.{_⊎_, inl, inr}
 use mathlib.Core.List.{List, [], _++_}
 use Prim.Native.Nat.{ℕ, _+_, _<_, _≤_}
 use native.Mathlib.Nat.{add-zero}
@@ -51,7 +52,7 @@ module _ {s : List ℕ} {at : ℕ} {b : Bool} {to size : ℕ} {k : Code} (m : Me
   whole : (j : Code) → k ≡ j → Whole (operands 64 64 s j (parsed 64 64 s) at)
   whole j e = subst Whole (told j e) (m .room .0)
 
-  abbrev NodeHere : List ℕ → ℕ → Type 0
+  abbrev pub NodeHere : List ℕ → ℕ → Type 0
   NodeHere rest end = Node (parsed 64 64 s at) b (heading k (getD s (at + 1) 0) b) rest end
 
   here : (j : Code) (e : k ≡ j) (rest : List ℕ) (end : ℕ) → NodeOf s at b (parsed 64 64 s) j rest end → NodeHere rest end
@@ -59,17 +60,21 @@ module _ {s : List ℕ} {at : ℕ} {b : Bool} {to size : ℕ} {k : Code} (m : Me
       subst⁻¹ (λ (p : Parsed). Node p b (heading k (getD s (at + 1) 0) b) rest end) (told j e)
       (subst⁻¹ (λ (i : Code). Node (operands 64 64 s j (parsed 64 64 s) at) b (heading i (getD s (at + 1) 0) b) rest end) e x)
 
-  leaf : (c : Constant) → k ≡ Leaf c → NodeHere [] (at + 1)
-  leaf c e = here (Leaf c) e _ _ (read-leaf s at b (parsed 64 64 s) c)
+  pub leaf-node : (c : Constant) → k ≡ Leaf c → NodeHere [] (at + 1)
+  leaf-node c e = here (Leaf c) e _ _ (read-leaf s at b (parsed 64 64 s) c)
 
-  one : (o : Unary) → k ≡ One o → (let p = parsed 64 64 s (at + 1) in Whole p × NodeHere (bytesOf p (sign o b)) (behind p))
-  one o e = let x = read-one s at b (parsed 64 64 s) o (whole (One o) e) in (x .0, here (One o) e _ _ (x .1))
+  pub number-node : (k ≡ Fact) ⊎ (k ≡ Action) → (at + 1 < length s) × NodeHere [] (at + 1 + 1)
+  number-node (inl e) = let x = read-fact s at b (parsed 64 64 s) (whole Fact e) in (x .0, here Fact e _ _ (x .1))
+  number-node (inr e) = let x = read-action s at b (parsed 64 64 s) (whole Action e) in (x .0, here Action e _ _ (x .1))
 
-  two : (o : Binary) → k ≡ Two o
+  pub one-node : (o : Unary) → k ≡ One o → (let p = parsed 64 64 s (at + 1) in Whole p × NodeHere (bytesOf p (sign o b)) (behind p))
+  one-node o e = let x = read-one s at b (parsed 64 64 s) o (whole (One o) e) in (x .0, here (One o) e _ _ (x .1))
+
+  pub two-node : (o : Binary) → k ≡ Two o
       → (let p = parsed 64 64 s (at + 1) in
       let q = parsed 64 64 s (behind p) in
       Whole p × Whole q × NodeHere (bytesOf p b ++ bytesOf q b) (behind q))
-  two o e = let x = read-two s at b (parsed 64 64 s) o (whole (Two o) e) in (x .0, x .1, here (Two o) e _ _ (x .2))
+  two-node o e = let x = read-two s at b (parsed 64 64 s) o (whole (Two o) e) in (x .0, x .1, here (Two o) e _ _ (x .2))
 
   pub unknown : k ≡ Unknown → ⊥
   unfolding operands Whole
@@ -82,20 +87,70 @@ module _ {s : List ℕ} {at : ℕ} {b : Bool} {to size : ℕ} {k : Code} (m : Me
       let n = here k refl (x .0) (x .1) (x .2) in
       omega (arith, ap length (n .text), length-append (heading k (getD s (at + 1) 0) b) (x .0), m .room .1)
 
--- what is left behind a heading of a node's text that has room has room behind the heading
-rest-fits : {p : Parsed} {b : Bool} {head rest : List ℕ} {end : ℕ} → Node p b head rest end
-    → (to j size : ℕ) → to + length (bytesOf p b) ≤ size → j ≡ to + length head → j + length rest ≤ size
-rest-fits {p} {b} {head} {rest} n to j size h e = omega (arith, ap length (n .text), length-append head rest)
+-- and j is the position behind its heading
+pub record Passed (s : List ℕ) (at : ℕ) (b : Bool) (to size : ℕ) (k : Code) (j : ℕ) : Type 0 where
+  pub met : Met s at b to size k
+  pub moved : j ≡ to + length (heading k (getD s (at + 1) 0) b)
 
--- a node ends where its rest does
-rest-ends : {p : Parsed} {b : Bool} {head rest : List ℕ} {end : ℕ} → Node p b head rest end
-    → (to j : ℕ) → j ≡ to + length head → record { next = end; to = j + length rest } ≡ endsOf p b to
-rest-ends {p} {b} {head} {rest} {end} n to j e =
-    let d : j + length rest ≡ to + length (bytesOf p b) = omega (arith, ap length (n .text), length-append head rest) in
-    ap₂ {C = Ends} (λ (x y : ℕ). record { next = x; to = y }) (sym (n .ends)) d
+module _ {s : List ℕ} {at : ℕ} {b : Bool} {to size : ℕ} {k : Code} {j : ℕ} (g : Passed s at b to size k j) where
+  -- what is left of the text has room
+  rest-fits : {rest : List ℕ} {end : ℕ} → NodeHere (g .met) rest end → j + length rest ≤ size
+  rest-fits {rest} n =
+      omega (arith, ap length (n .text), length-append (heading k (getD s (at + 1) 0) b) rest, g .moved, g .met .room .1)
 
--- ---- behind the heading, at j
-module _ {s : List ℕ} {at : ℕ} {b : Bool} {to size : ℕ} {k : Code} (m : Met s at b to size k) (j : ℕ)
-    (e : j ≡ to + length (heading k (getD s (at + 1) 0) b)) where
+  -- the node ends where what is left does
+  rest-ends : {rest : List ℕ} {end : ℕ} → NodeHere (g .met) rest end → record { next = end; to = j + length rest } ≡ endsOf (parsed 64 64 s at) b to
+  rest-ends {rest} n =
+      let d : j + length rest ≡ to + length (bytesOf (parsed 64 64 s at) b) =
+      omega (arith, ap length (n .text), length-append (heading k (getD s (at + 1) 0) b) rest, g .moved) in
+      ap₂ {C = Ends} (λ (x y : ℕ). record { next = x; to = y }) (sym (n .ends)) d
+
+  -- nothing is left
+  bare-ends : {end : ℕ} → NodeHere (g .met) [] end → record { next = end; to = j } ≡ endsOf (parsed 64 64 s at) b to
+  bare-ends {end} n = ap {B = Ends} (λ (x : ℕ). record { next = end; to = x }) (sym (add-zero j)) ∙ rest-ends n
+
   pub leaf-ends : (c : Constant) → k ≡ Leaf c → record { next = at + 1; to = j } ≡ endsOf (parsed 64 64 s at) b to
-  leaf-ends c d = ap {B = Ends} (λ (x : ℕ). record { next = at + 1; to = x }) (sym (add-zero j)) ∙ rest-ends (leaf m c d) to j e
+  leaf-ends c d = bare-ends (leaf-node (g .met) c d)
+
+  pub number-ends : (k ≡ Fact) ⊎ (k ≡ Action) → record { next = at + 1 + 1; to = j } ≡ endsOf (parsed 64 64 s at) b to
+  number-ends d = bare-ends (number-node (g .met) d .1)
+
+  -- one operand, with its sign
+  module _ (o : Unary) (d : k ≡ One o) (f : Bool) (ef : f ≡ sign o b) where
+    pub one-asks : Room (parsed 64 64 s (at + 1)) f j size
+    one-asks =
+        let x = one-node (g .met) o d in
+        subst⁻¹ (λ (h : Bool). Room (parsed 64 64 s (at + 1)) h j size) ef (x .0, rest-fits (x .1))
+
+    pub one-ends : (r : Ends) → r ≡ endsOf (parsed 64 64 s (at + 1)) f j → r ≡ endsOf (parsed 64 64 s at) b to
+    one-ends r e = e ∙ ap (λ (h : Bool). endsOf (parsed 64 64 s (at + 1)) h j) ef ∙ rest-ends (one-node (g .met) o d .1)
+
+  -- two operands; r₁ is where the first ends
+  module _ (o : Binary) (d : k ≡ Two o) where
+    abbrev p : Parsed
+    p = parsed 64 64 s (at + 1)
+
+    abbrev q : Parsed
+    q = parsed 64 64 s (behind p)
+
+    texts : length (bytesOf p b ++ bytesOf q b) ≡ length (bytesOf p b) + length (bytesOf q b)
+    texts = length-append (bytesOf p b) (bytesOf q b)
+
+    pub two-asks : Room p b j size
+    two-asks = let x = two-node (g .met) o d in (x .0, omega (arith, rest-fits (x .2), texts))
+
+    module _ (r₁ : Ends) (e₁ : r₁ ≡ endsOf p b j) where
+      pub two-grows : at + 1 < r₁ .next
+      two-grows = rw e₁ (grows s (at + 1) (two-node (g .met) o d .0))
+
+      pub two-asks′ : Room (parsed 64 64 s (r₁ .next)) b (r₁ .to) size
+      two-asks′ =
+          let x = two-node (g .met) o d in
+          let h : j + length (bytesOf p b) + length (bytesOf q b) ≤ size = omega (arith, rest-fits (x .2), texts) in
+          subst⁻¹ (λ (r : Ends). Room (parsed 64 64 s (r .next)) b (r .to) size) e₁ (x .1, h)
+
+      pub two-ends : (r : Ends) → r ≡ endsOf (parsed 64 64 s (r₁ .next)) b (r₁ .to) → r ≡ endsOf (parsed 64 64 s at) b to
+      two-ends r e =
+          let h : j + length (bytesOf p b) + length (bytesOf q b) ≡ j + length (bytesOf p b ++ bytesOf q b) = omega (arith, texts) in
+          e ∙ ap (λ (x : Ends). endsOf (parsed 64 64 s (x .next)) b (x .to)) e₁
+          ∙ ap {B = Ends} (λ (x : ℕ). record { next = behind q; to = x }) h ∙ rest-ends (two-node (g .met) o d .2)

@@ -1,6 +1,16 @@
-use Prim.Native.Nat.{ℕ, _<_}
+-- `measure` goes past a formula: each arm hands what the calls gave to the laws of passing. The bytes left become fewer.
+use mathlib.Core.Path.{_≡_, ap, _∙_}
+use mathlib.Core.Bool.{Bool}
+use mathlib.Core.Logic.{inl, inr}
+use mathlib.Core.List.{List}
+use Prim.Native.Nat.{ℕ, _<_, _-_, _+_}
+use native.Mathlib.Omega.{arith}
+use lib.ListN.{length}
+use borrow.Author.Needs.{needs}
 use borrow.Fn.Kinds.{In}
 use borrow.Fn.PlainCycle.{Measures, is, falls, and}
+use Rattle.normal.specs.Heading.{heading}
+use Rattle.normal.proofs.Passing.{Met, Passed, inside, head-fits, number-node, leaf-ends, number-ends, one-asks, one-ends, two-asks, two-grows, two-asks′, two-ends, unknown}
 use Rattle.normal.proofs.measure.Reads as measure
 use Rattle.normal.proofs.measure.Kinds as measure-kinds
 use Rattle.normal.proofs.+measure.Lts-measure as measure-lts
@@ -12,7 +22,7 @@ use Rattle.normal.proofs.+measure.{statement}
 use Rattle.normal.proofs.+measure.Tie.{close}
 
 abbrev μ-measure : Measures 1 measure-kinds.ps ℕ
-μ-measure κs a = ?
+μ-measure κs a = length (a .0 .now) - a .1 .0
 
 abbrev measure-at : ℕ → In 1 measure-kinds.ps
 measure-at t = and 1 measure-kinds.ps (is 1 measure-kinds.ps μ-measure t) measure.Pre
@@ -20,386 +30,124 @@ measure-at t = and 1 measure-kinds.ps (is 1 measure-kinds.ps μ-measure t) measu
 abbrev measure-below : ℕ → In 1 measure-kinds.ps
 measure-below t = and 1 measure-kinds.ps (falls 1 measure-kinds.ps _<_ μ-measure t) measure.Pre
 
--- src/lib.rt:208:16
-measure-shared-slice-read-byte : (t : ℕ) → measure-lts.Need-shared-slice-read-byte (
-  code-of-reads.Asked,
-  code-of-reads.Learnt,
-  byte-at-reads.Asked,
-  byte-at-reads.Learnt,
-  pass-head-reads.Asked,
-  pass-head-reads.Learnt,
-  sign-of-reads.Asked,
-  sign-of-reads.Learnt,
-  measure-below t,
-  measure.Post,
-) (measure-at t) measure.Post
-measure-shared-slice-read-byte t c = ?
+module _ (t : ℕ) where
+  abbrev claims : measure-lts.Claims
+  claims = (
+    code-of-reads.Asked,
+    code-of-reads.Learnt,
+    byte-at-reads.Asked,
+    byte-at-reads.Learnt,
+    pass-head-reads.Asked,
+    pass-head-reads.Learnt,
+    sign-of-reads.Asked,
+    sign-of-reads.Learnt,
+    measure-below t,
+    measure.Post,
+  )
 
--- src/lib.rt:209:9
-measure-code-of-requires : (t : ℕ) → measure-lts.Need-code-of-requires (
-  code-of-reads.Asked,
-  code-of-reads.Learnt,
-  byte-at-reads.Asked,
-  byte-at-reads.Learnt,
-  pass-head-reads.Asked,
-  pass-head-reads.Learnt,
-  sign-of-reads.Asked,
-  sign-of-reads.Learnt,
-  measure-below t,
-  measure.Post,
-) (measure-at t) measure.Post
-measure-code-of-requires t c κs = ?
+  abbrev Begin : Type 0
+  Begin = measure-lts.Start claims (measure-at t) measure.Post
 
--- src/lib.rt:210:13
-measure-add-b : (t : ℕ) → measure-lts.Need-add-b (
-  code-of-reads.Asked,
-  code-of-reads.Learnt,
-  byte-at-reads.Asked,
-  byte-at-reads.Learnt,
-  pass-head-reads.Asked,
-  pass-head-reads.Learnt,
-  sign-of-reads.Asked,
-  sign-of-reads.Learnt,
-  measure-below t,
-  measure.Post,
-) (measure-at t) measure.Post
-measure-add-b t c = ?
+  abbrev Coded : Type 0
+  Coded = measure-lts.After-code-of claims (measure-at t) measure.Post
 
--- src/lib.rt:211:33
-measure-byte-at-requires : (t : ℕ) → measure-lts.Need-byte-at-requires (
-  code-of-reads.Asked,
-  code-of-reads.Learnt,
-  byte-at-reads.Asked,
-  byte-at-reads.Learnt,
-  pass-head-reads.Asked,
-  pass-head-reads.Learnt,
-  sign-of-reads.Asked,
-  sign-of-reads.Learnt,
-  measure-below t,
-  measure.Post,
-) (measure-at t) measure.Post
-measure-byte-at-requires t c κs = ?
+  abbrev Behind : Type 0
+  Behind = measure-lts.After-pass-head claims (measure-at t) measure.Post
 
--- src/lib.rt:211:9
-measure-pass-head-requires : (t : ℕ) → measure-lts.Need-pass-head-requires (
-  code-of-reads.Asked,
-  code-of-reads.Learnt,
-  byte-at-reads.Asked,
-  byte-at-reads.Learnt,
-  pass-head-reads.Asked,
-  pass-head-reads.Learnt,
-  sign-of-reads.Asked,
-  sign-of-reads.Learnt,
-  measure-below t,
-  measure.Post,
-) (measure-at t) measure.Post
-measure-pass-head-requires t c κs = ?
+  within : (c : Begin) → c .args .at < length (c .args .s .now)
+  within c = inside (c .args .s .now) (c .args .at) (c .pre .1 .0)
 
--- src/lib.rt:213:26
-measure-enum-told : (t : ℕ) → measure-lts.Need-enum-told (
-  code-of-reads.Asked,
-  code-of-reads.Learnt,
-  byte-at-reads.Asked,
-  byte-at-reads.Learnt,
-  pass-head-reads.Asked,
-  pass-head-reads.Learnt,
-  sign-of-reads.Asked,
-  sign-of-reads.Learnt,
-  measure-below t,
-  measure.Post,
-) (measure-at t) measure.Post
-measure-enum-told t c = ?
+  met : (c : Coded) → (let a = c .before .before .before .args in Met (a .s .now) (a .at) (a .plain) (a .to) 384 (c .code-of .result))
+  met c = record { room = c .before .before .before .pre .1; code = c .code-of .ensures }
 
--- src/lib.rt:215:19
-measure-enum-told-2 : (t : ℕ) → measure-lts.Need-enum-told-2 (
-  code-of-reads.Asked,
-  code-of-reads.Learnt,
-  byte-at-reads.Asked,
-  byte-at-reads.Learnt,
-  pass-head-reads.Asked,
-  pass-head-reads.Learnt,
-  sign-of-reads.Asked,
-  sign-of-reads.Learnt,
-  measure-below t,
-  measure.Post,
-) (measure-at t) measure.Post
-measure-enum-told-2 t c = ?
+  passed : (c : Behind)
+      → (let a = c .before .before .before .before .before .args in
+      Passed (a .s .now) (a .at) (a .plain) (a .to) 384 (c .before .before .code-of .result) (c .pass-head .result))
+  passed c = record { met = met (c .before .before); moved = rw (← c .before .byte-at .ensures) (c .pass-head .ensures) }
 
--- src/lib.rt:215:19
-measure-add-t16 : (t : ℕ) → measure-lts.Need-add-t16 (
-  code-of-reads.Asked,
-  code-of-reads.Learnt,
-  byte-at-reads.Asked,
-  byte-at-reads.Learnt,
-  pass-head-reads.Asked,
-  pass-head-reads.Learnt,
-  sign-of-reads.Asked,
-  sign-of-reads.Learnt,
-  measure-below t,
-  measure.Post,
-) (measure-at t) measure.Post
-measure-add-t16 t c = ?
+  read-byte : measure-lts.Need-shared-slice-read-byte claims (measure-at t) measure.Post
+  read-byte c = within (c .before .before)
 
--- src/lib.rt:219:19
-measure-enum-told-3 : (t : ℕ) → measure-lts.Need-enum-told-3 (
-  code-of-reads.Asked,
-  code-of-reads.Learnt,
-  byte-at-reads.Asked,
-  byte-at-reads.Learnt,
-  pass-head-reads.Asked,
-  pass-head-reads.Learnt,
-  sign-of-reads.Asked,
-  sign-of-reads.Learnt,
-  measure-below t,
-  measure.Post,
-) (measure-at t) measure.Post
-measure-enum-told-3 t c = ?
+  add-b : measure-lts.Need-add-b claims (measure-at t) measure.Post
+  add-b c = omega (arith, within (c .before .before .before))
 
--- src/lib.rt:219:19
-measure-add-t17 : (t : ℕ) → measure-lts.Need-add-t17 (
-  code-of-reads.Asked,
-  code-of-reads.Learnt,
-  byte-at-reads.Asked,
-  byte-at-reads.Learnt,
-  pass-head-reads.Asked,
-  pass-head-reads.Learnt,
-  sign-of-reads.Asked,
-  sign-of-reads.Learnt,
-  measure-below t,
-  measure.Post,
-) (measure-at t) measure.Post
-measure-add-t17 t c = ?
+  pass-head-requires : measure-lts.Need-pass-head-requires claims (measure-at t) measure.Post
+  pass-head-requires c κs = rw (c .byte-at .ensures) (head-fits (met (c .before)))
 
--- src/lib.rt:222:19
-measure-enum-known-code : (t : ℕ) → measure-lts.Need-enum-known-code (
-  code-of-reads.Asked,
-  code-of-reads.Learnt,
-  byte-at-reads.Asked,
-  byte-at-reads.Learnt,
-  pass-head-reads.Asked,
-  pass-head-reads.Learnt,
-  sign-of-reads.Asked,
-  sign-of-reads.Learnt,
-  measure-below t,
-  measure.Post,
-) (measure-at t) measure.Post
-measure-enum-known-code t c = ?
+  add-t16 : measure-lts.Need-add-t16 claims (measure-at t) measure.Post
+  add-t16 c = omega (arith, number-node (met (c .before .before .before .before)) (inl (c .enum-told2 .given .1)) .0)
 
--- src/lib.rt:222:42
-measure-sign-of-requires : (t : ℕ) → measure-lts.Need-sign-of-requires (
-  code-of-reads.Asked,
-  code-of-reads.Learnt,
-  byte-at-reads.Asked,
-  byte-at-reads.Learnt,
-  pass-head-reads.Asked,
-  pass-head-reads.Learnt,
-  sign-of-reads.Asked,
-  sign-of-reads.Learnt,
-  measure-below t,
-  measure.Post,
-) (measure-at t) measure.Post
-measure-sign-of-requires t c κs = ?
+  add-t17 : measure-lts.Need-add-t17 claims (measure-at t) measure.Post
+  add-t17 c = omega (arith, number-node (met (c .before .before .before .before)) (inr (c .enum-told3 .given .1)) .0)
 
--- src/lib.rt:222:25
-measure-measure-requires : (t : ℕ) → measure-lts.Need-measure-requires (
-  code-of-reads.Asked,
-  code-of-reads.Learnt,
-  byte-at-reads.Asked,
-  byte-at-reads.Learnt,
-  pass-head-reads.Asked,
-  pass-head-reads.Learnt,
-  sign-of-reads.Asked,
-  sign-of-reads.Learnt,
-  measure-below t,
-  measure.Post,
-) (measure-at t) measure.Post
-measure-measure-requires t c κs = ?
+  measure-requires : measure-lts.Need-measure-requires claims (measure-at t) measure.Post
+  measure-requires c κs =
+      let p = c .before .before .before .before in
+      let l = within (p .before .before .before .before .before) in
+      (omega (arith, l), one-asks (passed p) (c .before .before .code .given .0 .0) (c .before .before .code .given .1) (c .sign-of .result) (c .sign-of .ensures))
 
--- src/lib.rt:224:17
-measure-enum-told-4 : (t : ℕ) → measure-lts.Need-enum-told-4 (
-  code-of-reads.Asked,
-  code-of-reads.Learnt,
-  byte-at-reads.Asked,
-  byte-at-reads.Learnt,
-  pass-head-reads.Asked,
-  pass-head-reads.Learnt,
-  sign-of-reads.Asked,
-  sign-of-reads.Learnt,
-  measure-below t,
-  measure.Post,
-) (measure-at t) measure.Post
-measure-enum-told-4 t c = ?
+  measure-requires-2 : measure-lts.Need-measure-requires-2 claims (measure-at t) measure.Post
+  measure-requires-2 c κs =
+      let p = c .before .before in
+      let l = within (p .before .before .before .before .before) in
+      (omega (arith, l), two-asks (passed p) (c .enum-told4 .given .0 .0) (c .enum-told4 .given .1))
 
--- src/lib.rt:224:17
-measure-measure-requires-2 : (t : ℕ) → measure-lts.Need-measure-requires-2 (
-  code-of-reads.Asked,
-  code-of-reads.Learnt,
-  byte-at-reads.Asked,
-  byte-at-reads.Learnt,
-  pass-head-reads.Asked,
-  pass-head-reads.Learnt,
-  sign-of-reads.Asked,
-  sign-of-reads.Learnt,
-  measure-below t,
-  measure.Post,
-) (measure-at t) measure.Post
-measure-measure-requires-2 t c κs = ?
+  measure-requires-3 : measure-lts.Need-measure-requires-3 claims (measure-at t) measure.Post
+  measure-requires-3 c κs =
+      let p = c .before .before .before in
+      let l = within (p .before .before .before .before .before) in
+      let o = c .before .enum-told4 .given in
+      let r = c .measure2 in
+      (omega (arith, l, two-grows (passed p) (o .0 .0) (o .1) (r .result) (r .ensures)), two-asks′ (passed p) (o .0 .0) (o .1) (r .result) (r .ensures))
 
--- src/lib.rt:227:13
-measure-measure-requires-3 : (t : ℕ) → measure-lts.Need-measure-requires-3 (
-  code-of-reads.Asked,
-  code-of-reads.Learnt,
-  byte-at-reads.Asked,
-  byte-at-reads.Learnt,
-  pass-head-reads.Asked,
-  pass-head-reads.Learnt,
-  sign-of-reads.Asked,
-  sign-of-reads.Learnt,
-  measure-below t,
-  measure.Post,
-) (measure-at t) measure.Post
-measure-measure-requires-3 t c κs = ?
+  returns : measure-lts.Need-returns claims (measure-at t) measure.Post
+  returns c = leaf-ends (passed (c .before .before)) (c .enum-told .given .0 .0) (c .enum-told .given .1)
 
--- src/lib.rt:229:26
-measure-enum-told-5 : (t : ℕ) → measure-lts.Need-enum-told-5 (
-  code-of-reads.Asked,
-  code-of-reads.Learnt,
-  byte-at-reads.Asked,
-  byte-at-reads.Learnt,
-  pass-head-reads.Asked,
-  pass-head-reads.Learnt,
-  sign-of-reads.Asked,
-  sign-of-reads.Learnt,
-  measure-below t,
-  measure.Post,
-) (measure-at t) measure.Post
-measure-enum-told-5 t c = ?
+  returns-2 : measure-lts.Need-returns-2 claims (measure-at t) measure.Post
+  returns-2 c = number-ends (passed (c .before .before)) (inl (c .enum-told2 .given .1))
 
--- src/lib.rt:204:1
-measure-returns : (t : ℕ) → measure-lts.Need-returns (
-  code-of-reads.Asked,
-  code-of-reads.Learnt,
-  byte-at-reads.Asked,
-  byte-at-reads.Learnt,
-  pass-head-reads.Asked,
-  pass-head-reads.Learnt,
-  sign-of-reads.Asked,
-  sign-of-reads.Learnt,
-  measure-below t,
-  measure.Post,
-) (measure-at t) measure.Post
-measure-returns t c = ?
+  returns-3 : measure-lts.Need-returns-3 claims (measure-at t) measure.Post
+  returns-3 c = number-ends (passed (c .before .before)) (inr (c .enum-told3 .given .1))
 
--- src/lib.rt:204:1
-measure-returns-2 : (t : ℕ) → measure-lts.Need-returns-2 (
-  code-of-reads.Asked,
-  code-of-reads.Learnt,
-  byte-at-reads.Asked,
-  byte-at-reads.Learnt,
-  pass-head-reads.Asked,
-  pass-head-reads.Learnt,
-  sign-of-reads.Asked,
-  sign-of-reads.Learnt,
-  measure-below t,
-  measure.Post,
-) (measure-at t) measure.Post
-measure-returns-2 t c = ?
+  returns-4 : measure-lts.Need-returns-4 claims (measure-at t) measure.Post
+  returns-4 c =
+      let o = c .before .before .before .code .given in
+      let f = c .before .sign-of in
+      one-ends (passed (c .before .before .before .before .before)) (o .0 .0) (o .1) (f .result) (f .ensures) (c .measure .result) (c .measure .ensures)
 
--- src/lib.rt:204:1
-measure-returns-3 : (t : ℕ) → measure-lts.Need-returns-3 (
-  code-of-reads.Asked,
-  code-of-reads.Learnt,
-  byte-at-reads.Asked,
-  byte-at-reads.Learnt,
-  pass-head-reads.Asked,
-  pass-head-reads.Learnt,
-  sign-of-reads.Asked,
-  sign-of-reads.Learnt,
-  measure-below t,
-  measure.Post,
-) (measure-at t) measure.Post
-measure-returns-3 t c = ?
+  returns-5 : measure-lts.Need-returns-5 claims (measure-at t) measure.Post
+  returns-5 c =
+      let o = c .before .before .enum-told4 .given in
+      let r = c .before .measure2 in
+      two-ends (passed (c .before .before .before .before)) (o .0 .0) (o .1) (r .result) (r .ensures) (c .measure3 .result) (c .measure3 .ensures)
 
--- src/lib.rt:204:1
-measure-returns-4 : (t : ℕ) → measure-lts.Need-returns-4 (
-  code-of-reads.Asked,
-  code-of-reads.Learnt,
-  byte-at-reads.Asked,
-  byte-at-reads.Learnt,
-  pass-head-reads.Asked,
-  pass-head-reads.Learnt,
-  sign-of-reads.Asked,
-  sign-of-reads.Learnt,
-  measure-below t,
-  measure.Post,
-) (measure-at t) measure.Post
-measure-returns-4 t c = ?
-
--- src/lib.rt:204:1
-measure-returns-5 : (t : ℕ) → measure-lts.Need-returns-5 (
-  code-of-reads.Asked,
-  code-of-reads.Learnt,
-  byte-at-reads.Asked,
-  byte-at-reads.Learnt,
-  pass-head-reads.Asked,
-  pass-head-reads.Learnt,
-  sign-of-reads.Asked,
-  sign-of-reads.Learnt,
-  measure-below t,
-  measure.Post,
-) (measure-at t) measure.Post
-measure-returns-5 t c = ?
-
--- src/lib.rt:204:1
-measure-returns-6 : (t : ℕ) → measure-lts.Need-returns-6 (
-  code-of-reads.Asked,
-  code-of-reads.Learnt,
-  byte-at-reads.Asked,
-  byte-at-reads.Learnt,
-  pass-head-reads.Asked,
-  pass-head-reads.Learnt,
-  sign-of-reads.Asked,
-  sign-of-reads.Learnt,
-  measure-below t,
-  measure.Post,
-) (measure-at t) measure.Post
-measure-returns-6 t c = ?
+  returns-6 : measure-lts.Need-returns-6 claims (measure-at t) measure.Post
+  returns-6 c = absurd (unknown (met (c .before .before .before .before)) (c .enum-told5 .given .1))
 
 pub +measure-spec : {M : Type 1} → statement M
-+measure-spec = close μ-measure λ t. measure-lts.spec (
-  code-of-reads.Asked,
-  code-of-reads.Learnt,
-  byte-at-reads.Asked,
-  byte-at-reads.Learnt,
-  pass-head-reads.Asked,
-  pass-head-reads.Learnt,
-  sign-of-reads.Asked,
-  sign-of-reads.Learnt,
-  measure-below t,
-  measure.Post,
-)
++measure-spec = close μ-measure λ t. measure-lts.spec (claims t)
     (measure-at t)
     measure.Post
-    (measure-shared-slice-read-byte t)
-    (measure-code-of-requires t)
-    (measure-add-b t)
-    (measure-byte-at-requires t)
-    (measure-pass-head-requires t)
-    (measure-enum-told t)
-    (measure-enum-told-2 t)
-    (measure-add-t16 t)
-    (measure-enum-told-3 t)
-    (measure-add-t17 t)
-    (measure-enum-known-code t)
-    (measure-sign-of-requires t)
-    (measure-measure-requires t)
-    (measure-enum-told-4 t)
-    (measure-measure-requires-2 t)
-    (measure-measure-requires-3 t)
-    (measure-enum-told-5 t)
-    (measure-returns t)
-    (measure-returns-2 t)
-    (measure-returns-3 t)
-    (measure-returns-4 t)
-    (measure-returns-5 t)
-    (measure-returns-6 t)
+    (read-byte t)
+    (λ c κs. search needs)
+    (add-b t)
+    (λ c κs. search needs)
+    (pass-head-requires t)
+    (λ c. search needs)
+    (λ c. search needs)
+    (add-t16 t)
+    (λ c. search needs)
+    (add-t17 t)
+    (λ c. search needs)
+    (λ c κs. search needs)
+    (measure-requires t)
+    (λ c. search needs)
+    (measure-requires-2 t)
+    (measure-requires-3 t)
+    (λ c. search needs)
+    (returns t)
+    (returns-2 t)
+    (returns-3 t)
+    (returns-4 t)
+    (returns-5 t)
+    (returns-6 t)
