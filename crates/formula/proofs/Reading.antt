@@ -2,7 +2,7 @@
 use mathlib.Core.Path.{_≡_, refl, sym, ap, _∙_}
 use mathlib.Core.Bool.{Bool, true, false, _||_}
 use mathlib.Core.List.{List}
-use Prim.Native.Nat.{ℕ, suc, _+_, _<_}
+use Prim.Native.Nat.{ℕ, _+_, _<_}
 use native.Mathlib.Numerals.{add-one}
 use native.Mathlib.Omega.{arith}
 use lib.ListN.{length, getD}
@@ -11,7 +11,7 @@ use Rattle.model.specs.declared.Unary.{Unary}
 use Rattle.model.specs.declared.Binary.{Binary}
 use Rattle.model.specs.declared.Code.{Code}
 use Rattle.model.specs.declared.Code.the-variants.{Leaf, Fact, Action, One, Two, Unknown}
-use Rattle.model.specs.logic.Formula.{Formula, constant, fact, action, unary, binary, choose, codeOf}
+use Rattle.model.specs.logic.Formula.{Formula, fact, action, unary, binary, choose, codeOf}
 use Rattle.model.specs.logic.Parts.{size, temporal1, temporal2}
 use Rattle.model.specs.logic.Reading.{Parsed, formula, wrong, then, andThen, numbered, operands, parsed}
 use Rattle.model.proofs.logic.ReadingLaws.{by-code, parsed-size, parsed-grows}
@@ -21,7 +21,7 @@ use Rattle.formula.specs.declared.Extent.{Extent}
 use Rattle.formula.specs.declared.Extent.the-variants.{Whole, Wrong}
 
 -- the second operand is read where the first one's reading ended, with what was seen up to there
-abbrev pub goOn : Extent → (Bool → Seen → ℕ → Extent) → Extent
+abbrev goOn : Extent → (Bool → Seen → ℕ → Extent) → Extent
 goOn (Whole m between) r = r false between m
 goOn (Wrong p) r = Wrong p
 
@@ -66,6 +66,7 @@ module _ (v a : ℕ) (s : List ℕ) (under : Bool) (seen : Seen) (at : ℕ) wher
   extent-second o φ m e (formula ψ n) = rw (e, add-one)
   extent-second o φ m e (wrong p) = refl
 
+  -- two operands, where a formula that was read ends as many bytes on as it has
   extent-two : (o : Binary) (rec : ℕ → Parsed) → ((φ : Formula) (m : ℕ) → rec (at + 1) ≡ formula φ m → m ≡ at + 1 + size φ)
       → extent under seen at (andThen (rec (at + 1)) (λ φ m. then (binary o φ) (rec m)))
       ≡ goOn (extent false (noteIf (under || temporal2 o) seen at) (at + 1) (rec (at + 1))) (λ u x m. extent u x m (rec m))
@@ -78,6 +79,7 @@ module _ (v a : ℕ) (s : List ℕ) (under : Bool) (seen : Seen) (at : ℕ) wher
       go (formula φ m) e = extent-second o φ m (e φ m refl) (rec m)
       go (wrong p) e = refl
 
+  -- what stands behind a code
   operands-read : (c : Code) (rec : ℕ → Parsed) → ((φ : Formula) (m : ℕ) → rec (at + 1) ≡ formula φ m → m ≡ at + 1 + size φ)
       → extent under seen at (operands v a s c rec at) ≡ reading c (λ u x m. extent u x m (rec m)) v a s (noteIf (under || carries c) seen at) at
   unfolding extent operands reading seenIn
@@ -96,10 +98,28 @@ module _ (v a : ℕ) (s : List ℕ) (under : Bool) (seen : Seen) (at : ℕ) wher
       ap (extent under seen at) (by-code v a s at k h (sym e)) ∙ operands-read k (parsed v a s) (parsed-size v a s (at + 1))
 
   -- a formula that was read ends behind its first byte
-  pub read-grows : (n : ℕ) (after : Seen) → Whole n after ≡ extent under seen at (parsed v a s at) → at < n
+  pub read-grows : (r : Extent) → r ≡ extent under seen at (parsed v a s at) → (n : ℕ) (after : Seen) → r ≡ Whole n after → at < n
   unfolding extent
-  read-grows n after e = go (parsed v a s at) refl e
+  read-grows r e n after f = go (parsed v a s at) refl e
     where
-      go : (p : Parsed) → parsed v a s at ≡ p → Whole n after ≡ extent under seen at p → at < n
-      go (formula φ m) d e = let g : at < m = parsed-grows v a s at φ m d in let f : n ≡ m = cc in omega arith
+      go : (p : Parsed) → parsed v a s at ≡ p → r ≡ extent under seen at p → at < n
+      go (formula φ m) d e = let g : at < m = parsed-grows v a s at φ m d in let h : n ≡ m = cc in omega arith
       go (wrong p) d e = let z : _≡_ {A = ℕ} 0 1 = cc in absurd (omega arith)
+
+-- ---- the arms with operands, where w is the answer by the code
+module _ (r : Bool → Seen → ℕ → Extent) (v a : ℕ) (s : List ℕ) (here : Seen) (at : ℕ) (w : Extent) where
+  -- the answer for one operand is the answer
+  pub one-answers : (o : Unary) → w ≡ reading (One o) r v a s here at → (u : Bool) → u ≡ isNext o → (x : Extent) → x ≡ r u here (at + 1) → x ≡ w
+  unfolding reading
+  one-answers o e u g x f = f ∙ ap (λ (b : Bool). r b here (at + 1)) g ∙ sym e
+
+  module _ (o : Binary) (e : w ≡ reading (Two o) r v a s here at) (y : Extent) (f : y ≡ r false here (at + 1)) where
+    -- where the first of two operands is whole, the answer for the second is the answer
+    pub two-answers : (m : ℕ) (between : Seen) → y ≡ Whole m between → (x : Extent) → x ≡ r false between m → x ≡ w
+    unfolding reading
+    two-answers m between g x h = h ∙ sym (e ∙ ap (λ (z : Extent). goOn z r) (sym f ∙ g))
+
+    -- and else the answer for the first is
+    pub two-wrong : (p : ℕ) → y ≡ Wrong p → Wrong p ≡ w
+    unfolding reading
+    two-wrong p g = sym (e ∙ ap (λ (z : Extent). goOn z r) (sym f ∙ g))

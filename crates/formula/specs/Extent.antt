@@ -30,6 +30,9 @@ isNext Next = true
 isNext Eventually = false
 isNext Always = false
 
+abbrev pub none : Seen
+none = record { parts = 0; seventh = 0 }
+
 -- one part more; the count stops at 7
 abbrev pub note : Seen → ℕ → Seen
 note s at =

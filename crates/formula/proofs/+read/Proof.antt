@@ -1,20 +1,22 @@
 -- `read` answers by the code at its position: the proof of the cycle of calls {read}. The measure is the number of bytes left.
 use mathlib.Core.Path.{_≡_, sym, ap, _∙_}
-use mathlib.Core.Bool.{Bool, _||_}
+use mathlib.Core.Bool.{Bool}
 use Prim.Native.Nat.{ℕ, _<_, _-_, _+_}
 use native.Mathlib.Omega.{arith}
 use lib.ListN.{length}
 use borrow.Author.Needs.{needs}
 use borrow.Fn.Kinds.{In}
 use borrow.Fn.PlainCycle.{Measures, is, falls, and}
+use Rattle.model.specs.declared.Unary.{Unary}
+use Rattle.model.specs.declared.Binary.{Binary}
 use Rattle.model.specs.declared.Code.{Code}
 use Rattle.model.specs.declared.Code.the-variants.{Leaf, Fact, Action, One, Two, Unknown}
 use Rattle.model.specs.logic.Reading.{parsed}
 use Rattle.model.proofs.logic.ReadingLaws.{at-the-end}
-use Rattle.formula.specs.Extent.{carries, noteIf, extent}
+use Rattle.formula.specs.Extent.{noteIf, extent}
 use Rattle.formula.specs.declared.Seen.{Seen}
 use Rattle.formula.specs.declared.Extent.{Extent}
-use Rattle.formula.proofs.Reading.{reading, goOn, read-is, read-grows}
+use Rattle.formula.proofs.Reading.{reading, read-is, read-grows, one-answers, two-answers, two-wrong}
 use Rattle.formula.proofs.read.Reads as read
 use Rattle.formula.proofs.read.Kinds as read-kinds
 use Rattle.formula.proofs.+read.Lts-read as read-lts
@@ -71,7 +73,7 @@ module _ (t : ℕ) where
       let k′ : Code = c .before .before .code-of .result in
       read-is (a .facts) (a .actions) (a .s .now) (a .under) (a .seen) (a .at) k′ (c .before .before .before .before .if1 .left) (c .before .before .code-of .ensures)
       ∙ ap (λ (x : Seen). reading k′ (rest c) (a .facts) (a .actions) (a .s .now) x (a .at))
-        (sym (c .seen-here .ensures ∙ ap (λ (b : Bool). noteIf b (a .seen) (a .at)) (c .before .is-part .ensures)))
+      (sym (c .seen-here .ensures ∙ ap (λ (b : Bool). noteIf b (a .seen) (a .at)) (c .before .is-part .ensures)))
       ∙ ap (λ (j : Code). reading j (rest c) (a .facts) (a .actions) (a .s .now) (c .seen-here .result) (a .at)) e
 
   read-returns : read-lts.Need-returns claims (read-at t) read.Post
@@ -83,10 +85,10 @@ module _ (t : ℕ) where
   -- the second operand stands further on, so fewer bytes are left
   read-read-requires-3 : read-lts.Need-read-requires-3 claims (read-at t) read.Post
   read-read-requires-3 c κs =
-      let h : Here = c .before .before .before .before .before .before in
-      let a = h .before .before .before .before .before .before .args in
+      let d = c .before .before .before in
+      let a = d .before .before .before .before .before .before .before .before .before .args in
       let m : ℕ = c .before .m .given .0 .0 in
-      let g : a .at + 1 < m = read-grows (a .facts) (a .actions) (a .s .now) _ _ (a .at + 1) m _ (sym (c .before .m .given .1) ∙ c .before .before .before .read2 .ensures) in
+      let g : a .at + 1 < m = read-grows (a .facts) (a .actions) (a .s .now) _ _ (a .at + 1) (d .read2 .result) (d .read2 .ensures) m _ (c .before .m .given .1) in
       (omega arith, tt)
 
   read-returns-2 : read-lts.Need-returns-2 claims (read-at t) read.Post
@@ -102,29 +104,31 @@ module _ (t : ℕ) where
   read-returns-4 c = c .number2 .ensures ∙ sym (told (c .before .before .before) Action (c .before .enum-told3 .given .1))
 
   read-returns-5 : read-lts.Need-returns-5 claims (read-at t) read.Post
-  unfolding reading
   read-returns-5 c =
-      let h : Here = c .before .before .before .before .before in
+      let d = c .before .before .before in
+      let h : Here = d .before .before in
       let a = h .before .before .before .before .before .before .args in
-      let x = c .before .before .before .code in
-      c .read .ensures
-      ∙ ap (λ (u : Bool). rest h u (h .seen-here .result) (a .at + 1)) (c .before .is-next .ensures)
-      ∙ sym (told h (One (x .given .0 .0)) (x .given .1))
+      let o : Unary = d .code .given .0 .0 in
+      one-answers (rest h) (a .facts) (a .actions) (a .s .now) (h .seen-here .result) (a .at) _ o (told h (One o) (d .code .given .1))
+      (c .before .is-next .result) (c .before .is-next .ensures) (c .read .result) (c .read .ensures)
 
   read-returns-6 : read-lts.Need-returns-6 claims (read-at t) read.Post
-  unfolding reading
   read-returns-6 c =
-      let d = c .before .before .before .before .before in
-      c .read3 .ensures
-      ∙ sym (told (d .before .before) (Two (d .enum-told4 .given .0 .0)) (d .enum-told4 .given .1)
-      ∙ ap (λ (x : Extent). goOn x (rest (d .before .before))) (sym (c .before .before .before .before .read2 .ensures) ∙ c .before .before .m .given .1))
+      let d = c .before .before .before .before in
+      let h : Here = d .before .before .before in
+      let a = h .before .before .before .before .before .before .args in
+      let o : Binary = d .before .enum-told4 .given .0 .0 in
+      two-answers (rest h) (a .facts) (a .actions) (a .s .now) (h .seen-here .result) (a .at) _ o (told h (Two o) (d .before .enum-told4 .given .1))
+      (d .read2 .result) (d .read2 .ensures) _ _ (c .before .before .m .given .1) (c .read3 .result) (c .read3 .ensures)
 
   read-returns-7 : read-lts.Need-returns-7 claims (read-at t) read.Post
-  unfolding reading
   read-returns-7 c =
-      let d = c .before .before .before .before in
-      sym (told (d .before .before) (Two (d .enum-told4 .given .0 .0)) (d .enum-told4 .given .1)
-      ∙ ap (λ (x : Extent). goOn x (rest (d .before .before))) (sym (c .before .before .before .read2 .ensures) ∙ c .before .p .given .1))
+      let d = c .before .before .before in
+      let h : Here = d .before .before .before in
+      let a = h .before .before .before .before .before .before .args in
+      let o : Binary = d .before .enum-told4 .given .0 .0 in
+      two-wrong (rest h) (a .facts) (a .actions) (a .s .now) (h .seen-here .result) (a .at) _ o (told h (Two o) (d .before .enum-told4 .given .1))
+      (d .read2 .result) (d .read2 .ensures) _ (c .before .p .given .1)
 
   read-returns-8 : read-lts.Need-returns-8 claims (read-at t) read.Post
   unfolding reading
