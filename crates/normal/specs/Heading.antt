@@ -11,8 +11,8 @@ use Rattle.model.specs.declared.Binary.{Binary}
 use Rattle.model.specs.declared.Binary.the-variants.{And, Or, Until, Release}
 use Rattle.model.specs.declared.Code.{Code}
 use Rattle.model.specs.declared.Code.the-variants.{Leaf, Fact, Action, One, Two, Unknown}
-use Rattle.normal.specs.declared.Head.{Head}
-use Rattle.normal.specs.declared.Head.the-variants.{Nothing, Single, Pair, Triple}
+use Rattle.normal.specs.declared.heading.Head.{Head}
+use Rattle.normal.specs.declared.heading.Head.the-variants.{Nothing, Single, Pair, Triple}
 
 abbrev pub bytesIn : Head → List ℕ
 bytesIn Nothing = []

@@ -1,20 +1,15 @@
 // Writes a rule back in positive normal form. A formula is gone through byte by byte: a node's heading, the bytes that stand before its
-// operands in the normal form, and then the operands.
-use model::Binary;
+// operands in the normal form, and then the operands. `plain` is the sign: whether the formula is written, or its negation.
+pub mod heading;
 use model::Code;
-use model::Constant;
 use model::Refusal;
 use model::Rewritten;
-use model::Unary;
 use model::Verdict;
 ghost use mathlib.Core.Path.{_≡_};
 ghost use mathlib.Core.Bool.{true, false};
-ghost use Prim.Native.Nat.{_+_, _≤_};
 ghost use lib.ListN.{length, getD};
-ghost use lib.Seq.{sets};
 ghost use Rattle.model.specs.logic.Reading.{parsed};
 ghost use Rattle.model.specs.calls.WriteBack.{ruleVerdict, writtenBack};
-ghost use Rattle.normal.specs.Heading.{bytesIn, head0, head1, head2, headNumber, headOf, heading, sign};
 ghost use Rattle.normal.specs.Writing.{Room, endsOf, Stored, writeEnd};
 
 // The position behind what was read, and the position behind what is written of it.
@@ -23,180 +18,11 @@ pub struct Ends {
     pub to: usize,
 }
 
-// The bytes of a heading.
-pub enum Head {
-    Nothing,
-    Single(u8),
-    Pair(u8, u8),
-    Triple(u8, u8, u8),
-}
-
-fn put(out: &mut [u8], to: usize, h: Head) -> usize
-    requires { ⌜ to + length (bytesIn h) ≤ length (now out) ⌝ }
-    ensures { λ r. ⌜ (r ≡ to + length (bytesIn h)) × (now (out .exit) ≡ sets (now (out .entry)) to (bytesIn h)) ⌝ }
-{
-    match h {
-        Head::Nothing => to,
-        Head::Single(a) => {
-            out[to] = a;
-            to + 1
-        }
-        Head::Pair(a, b) => {
-            out[to] = a;
-            out[to + 1] = b;
-            to + 2
-        }
-        Head::Triple(a, b, c) => {
-            out[to] = a;
-            out[to + 1] = b;
-            out[to + 2] = c;
-            to + 3
-        }
-    }
-}
-
-// The number of bytes.
-fn count(h: Head) -> usize
-    ensures { λ r. ⌜ (r ≡ length (bytesIn h)) × (r ≤ 3) ⌝ }
-{
-    match h {
-        Head::Nothing => 0,
-        Head::Single(_) => 1,
-        Head::Pair(_, _) => 2,
-        Head::Triple(_, _, _) => 3,
-    }
-}
-
-// In all that follows `plain` is the sign: whether the formula is written, or its negation.
-fn head_leaf(c: Constant, plain: bool) -> Head
-    ensures { λ r. ⌜ r ≡ head0 c plain ⌝ }
-{
-    match c {
-        Constant::False => if plain {
-            Head::Single(0x00)
-        } else {
-            Head::Single(0x01)
-        },
-        Constant::True => if plain {
-            Head::Single(0x01)
-        } else {
-            Head::Single(0x00)
-        },
-        Constant::Last => if plain {
-            Head::Single(0x02)
-        } else {
-            Head::Pair(0x10, 0x02)
-        },
-    }
-}
-
-fn head_one(o: Unary, plain: bool) -> Head
-    ensures { λ r. ⌜ r ≡ head1 o plain ⌝ }
-{
-    match o {
-        Unary::Not => Head::Nothing,
-        Unary::Next => if plain {
-            Head::Single(0x20)
-        } else {
-            Head::Triple(0x12, 0x02, 0x20)
-        },
-        Unary::Eventually => if plain {
-            Head::Single(0x21)
-        } else {
-            Head::Single(0x22)
-        },
-        Unary::Always => if plain {
-            Head::Single(0x22)
-        } else {
-            Head::Single(0x21)
-        },
-    }
-}
-
-fn head_two(o: Binary, plain: bool) -> Head
-    ensures { λ r. ⌜ r ≡ head2 o plain ⌝ }
-{
-    match o {
-        Binary::And => if plain {
-            Head::Single(0x11)
-        } else {
-            Head::Single(0x12)
-        },
-        Binary::Or => if plain {
-            Head::Single(0x12)
-        } else {
-            Head::Single(0x11)
-        },
-        Binary::Until => if plain {
-            Head::Single(0x23)
-        } else {
-            Head::Single(0x24)
-        },
-        Binary::Release => if plain {
-            Head::Single(0x24)
-        } else {
-            Head::Single(0x23)
-        },
-    }
-}
-
-fn head_number(code: u8, n: u8, plain: bool) -> Head
-    ensures { λ r. ⌜ r ≡ headNumber code n plain ⌝ }
-{
-    if plain {
-        Head::Pair(code, n)
-    } else {
-        Head::Triple(0x10, code, n)
-    }
-}
-
-// The heading of a node with a code; `n` is the byte behind the code.
-fn head_of(code: Code, n: u8, plain: bool) -> Head
-    ensures { λ r. ⌜ r ≡ headOf code n plain ⌝ }
-{
-    match code {
-        Code::Leaf(c) => head_leaf(c, plain),
-        Code::Fact => head_number(0x03, n, plain),
-        Code::Action => head_number(0x04, n, plain),
-        Code::One(o) => head_one(o, plain),
-        Code::Two(o) => head_two(o, plain),
-        Code::Unknown => Head::Nothing,
-    }
-}
-
-// The sign of an operator's one operand: a not turns it over.
-fn sign_of(o: Unary, plain: bool) -> bool
-    ensures { λ r. ⌜ r ≡ sign o plain ⌝ }
-{
-    match o {
-        Unary::Not => if plain { false } else { true },
-        Unary::Next => plain,
-        Unary::Eventually => plain,
-        Unary::Always => plain,
-    }
-}
-
 // The byte at a position, or 0 past the end.
 fn byte_at(s: &[u8], at: usize) -> u8
     ensures { λ r. ⌜ r ≡ getD (now (s .entry)) at 0 ⌝ }
 {
     if at < s.len() { s[at] } else { 0 }
-}
-
-// Writes the heading of a node.
-fn put_head(out: &mut [u8], to: usize, code: Code, n: u8, plain: bool) -> usize
-    requires { ⌜ to + length (heading code n plain) ≤ length (now out) ⌝ }
-    ensures { λ r. ⌜ (r ≡ to + length (heading code n plain)) × (now (out .exit) ≡ sets (now (out .entry)) to (heading code n plain)) ⌝ }
-{
-    put(out, to, head_of(code, n, plain))
-}
-
-// Goes past the heading of a node without writing.
-fn pass_head(to: usize, code: Code, n: u8, plain: bool) -> usize
-    requires { ⌜ to + length (heading code n plain) ≤ 384 ⌝ }
-    ensures { λ r. ⌜ r ≡ to + length (heading code n plain) ⌝ }
-{
-    to + count(head_of(code, n, plain))
 }
 
 // Where the formula at a position ends, and where its normal form would end: as the two writers below, without writing.
@@ -208,7 +34,7 @@ fn measure(s: &[u8], at: usize, to: usize, plain: bool) -> Ends
     let byte = s[at];
     let code = formula::code_of(byte);
     let b = at + 1;
-    let k = pass_head(to, code, byte_at(s, b), plain);
+    let k = heading::pass_head(to, code, byte_at(s, b), plain);
     match code {
         Code::Leaf(_) => Ends { next: b, to: k },
         Code::Fact => Ends {
@@ -219,7 +45,7 @@ fn measure(s: &[u8], at: usize, to: usize, plain: bool) -> Ends
             next: b + 1,
             to: k,
         },
-        Code::One(o) => measure(s, b, k, sign_of(o, plain)),
+        Code::One(o) => measure(s, b, k, heading::sign_of(o, plain)),
         Code::Two(_) => {
             let p = measure(s, b, k, plain);
             let m = p.next;
@@ -238,7 +64,7 @@ pub fn write(s: &[u8], at: usize, out: &mut [u8], to: usize) -> Ends
     let byte = s[at];
     let code = formula::code_of(byte);
     let b = at + 1;
-    let k = put_head(out, to, code, byte_at(s, b), true);
+    let k = heading::put_head(out, to, code, byte_at(s, b), true);
     match code {
         Code::Leaf(_) => Ends { next: b, to: k },
         Code::Fact => Ends {
@@ -249,7 +75,7 @@ pub fn write(s: &[u8], at: usize, out: &mut [u8], to: usize) -> Ends
             next: b + 1,
             to: k,
         },
-        Code::One(o) => if sign_of(o, true) {
+        Code::One(o) => if heading::sign_of(o, true) {
             write(s, b, out, k)
         } else {
             write_negated(s, b, out, k)
@@ -272,7 +98,7 @@ pub fn write_negated(s: &[u8], at: usize, out: &mut [u8], to: usize) -> Ends
     let byte = s[at];
     let code = formula::code_of(byte);
     let b = at + 1;
-    let k = put_head(out, to, code, byte_at(s, b), false);
+    let k = heading::put_head(out, to, code, byte_at(s, b), false);
     match code {
         Code::Leaf(_) => Ends { next: b, to: k },
         Code::Fact => Ends {
@@ -283,7 +109,7 @@ pub fn write_negated(s: &[u8], at: usize, out: &mut [u8], to: usize) -> Ends
             next: b + 1,
             to: k,
         },
-        Code::One(o) => if sign_of(o, false) {
+        Code::One(o) => if heading::sign_of(o, false) {
             write(s, b, out, k)
         } else {
             write_negated(s, b, out, k)
@@ -295,5 +121,38 @@ pub fn write_negated(s: &[u8], at: usize, out: &mut [u8], to: usize) -> Ends
             write_negated(s, m, out, j)
         }
         Code::Unknown => Ends { next: b, to: k },
+    }
+}
+
+// Refusals 1 and 2, and then 4 and 5 counted from the rule's start.
+fn rule_verdict(facts: u8, actions: u8, rule: &[u8]) -> Verdict
+    ensures { λ r. ⌜ r ≡ ruleVerdict facts actions (now (rule .entry)) ⌝ }
+{
+    if facts < 1 || 64 < facts || 64 < actions {
+        return Verdict::Bad(Refusal { number: 1, place: 0 });
+    }
+    if rule.len() < 1 || 128 < rule.len() {
+        return Verdict::Bad(Refusal { number: 2, place: 0 });
+    }
+    formula::check(rule, 0, facts, actions)
+}
+
+// Writes a rule back into a buffer. The length is known before a byte is written, so that the buffer is untouched if it is too short.
+pub fn write_back(facts: u8, actions: u8, rule: &[u8], out: &mut [u8]) -> Rewritten
+    ensures { λ r. ⌜ writeEnd r (now (out .exit)) ≡ writtenBack facts actions (now (rule .entry)) (now (out .entry)) ⌝ }
+{
+    match rule_verdict(facts, actions, rule) {
+        Verdict::Bad(r) => Rewritten::Refused(r),
+        Verdict::Fine => {
+            let needed = measure(rule, 0, 0, true).to;
+            if out.len() < needed {
+                return Rewritten::Refused(Refusal {
+                    number: 13,
+                    place: needed,
+                });
+            }
+            write(rule, 0, out, 0);
+            Rewritten::Written(needed)
+        }
     }
 }

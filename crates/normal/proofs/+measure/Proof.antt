@@ -16,8 +16,8 @@ use Rattle.normal.proofs.measure.Kinds as measure-kinds
 use Rattle.normal.proofs.+measure.Lts-measure as measure-lts
 use Rattle.formula.proofs.code_of.Reads as code-of-reads
 use Rattle.normal.proofs.byte_at.Reads as byte-at-reads
-use Rattle.normal.proofs.pass_head.Reads as pass-head-reads
-use Rattle.normal.proofs.sign_of.Reads as sign-of-reads
+use Rattle.normal.proofs.heading.pass_head.Reads as pass-head-reads
+use Rattle.normal.proofs.heading.sign_of.Reads as sign-of-reads
 use Rattle.normal.proofs.+measure.{statement}
 use Rattle.normal.proofs.+measure.Tie.{close}
 

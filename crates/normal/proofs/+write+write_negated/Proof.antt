@@ -19,8 +19,8 @@ use Rattle.normal.proofs.write_negated.Kinds as write-negated-kinds
 use Rattle.normal.proofs.+write+write_negated.Lts-write_negated as write-negated-lts
 use Rattle.formula.proofs.code_of.Reads as code-of-reads
 use Rattle.normal.proofs.byte_at.Reads as byte-at-reads
-use Rattle.normal.proofs.put_head.Reads as put-head-reads
-use Rattle.normal.proofs.sign_of.Reads as sign-of-reads
+use Rattle.normal.proofs.heading.put_head.Reads as put-head-reads
+use Rattle.normal.proofs.heading.sign_of.Reads as sign-of-reads
 use Rattle.normal.proofs.+write+write_negated.{statement}
 use Rattle.normal.proofs.+write+write_negated.Tie.{close}
 

@@ -2,8 +2,8 @@
 use borrow.Author.Needs.{needs}
 use mathlib.Core.Path.{ap}
 use Rattle.normal.specs.Heading.{bytesIn}
-use Rattle.normal.proofs.put_head.Statement.{statement}
-use Rattle.normal.proofs.put_head.Tie as tie
+use Rattle.normal.proofs.heading.put_head.Statement.{statement}
+use Rattle.normal.proofs.heading.put_head.Tie as tie
 
 put-requires : tie.Need-put-requires
 put-requires c κs = rw (c .head-of .ensures) (c .before .before .before .pre)

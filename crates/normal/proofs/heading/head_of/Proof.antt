@@ -1,7 +1,7 @@
 -- `head_of` picks the heading by the code: each arm's is the one of the function that it calls.
 use borrow.Author.Needs.{needs}
-use Rattle.normal.proofs.head_of.Statement.{statement}
-use Rattle.normal.proofs.head_of.Tie as tie
+use Rattle.normal.proofs.heading.head_of.Statement.{statement}
+use Rattle.normal.proofs.heading.head_of.Tie as tie
 
 returns : tie.Need-returns
 returns c = rw (c .before .before .code .given .1) (c .head-leaf .ensures)

@@ -1,6 +1,6 @@
 -- `head_number` writes a not before the code where the sign is false.
-use Rattle.normal.proofs.head_number.Statement.{statement}
-use Rattle.normal.proofs.head_number.Tie as tie
+use Rattle.normal.proofs.heading.head_number.Statement.{statement}
+use Rattle.normal.proofs.heading.head_number.Tie as tie
 
 returns : tie.Need-returns
 returns c = rw (c .if1 .taken)

@@ -8,11 +8,11 @@ use native.Mathlib.Omega.{arith}
 use lib.ListN.{length, set, length-set}
 use lib.Seq.{sets}
 use Rattle.normal.specs.Heading.{bytesIn}
-use Rattle.normal.specs.declared.Head.{Head}
-use Rattle.normal.proofs.put.Statement.{statement}
-use Rattle.normal.proofs.put.Tie as tie
-use Rattle.normal.proofs.put.Reads as reads
-use Rattle.normal.proofs.put.Lts as lts
+use Rattle.normal.specs.declared.heading.Head.{Head}
+use Rattle.normal.proofs.heading.put.Statement.{statement}
+use Rattle.normal.proofs.heading.put.Tie as tie
+use Rattle.normal.proofs.heading.put.Reads as reads
+use Rattle.normal.proofs.heading.put.Lts as lts
 
 room : {h g : Head} → h ≡ g → (to n : ℕ) → to + length (bytesIn h) ≤ n → to + length (bytesIn g) ≤ n
 room e to n p = subst (λ (x : Head). to + length (bytesIn x) ≤ n) e p

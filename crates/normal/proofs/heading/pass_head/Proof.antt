@@ -4,8 +4,8 @@ use mathlib.Core.Path.{ap, _∙_}
 use native.Mathlib.Omega.{arith}
 use lib.ListN.{length}
 use Rattle.normal.specs.Heading.{bytesIn}
-use Rattle.normal.proofs.pass_head.Statement.{statement}
-use Rattle.normal.proofs.pass_head.Tie as tie
+use Rattle.normal.proofs.heading.pass_head.Statement.{statement}
+use Rattle.normal.proofs.heading.pass_head.Tie as tie
 
 returns : tie.Need-returns
 returns c = rw (c .count .ensures .0, c .before .head-of .ensures)
