@@ -2,3 +2,5 @@
 pub mod Texts
 pub mod Passing
 pub mod Storing
+pub mod Verdicts
+pub mod WritingBack

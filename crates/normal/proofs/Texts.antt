@@ -2,9 +2,10 @@
 -- and false where its negation is.
 use mathlib.Core.Path.{_≡_, refl}
 use mathlib.Core.Bool.{Bool, true, false}
-use mathlib.Core.List.{List, [], _++_}
-use Prim.Native.Nat.{ℕ, _+_, _<_}
-use lib.ListN.{length, getD}
+use mathlib.Core.List.{List, [], _++_, append-nil}
+use Prim.Native.Nat.{ℕ, _+_, _*_, _<_, _≤_}
+use native.Mathlib.Omega.{arith}
+use lib.ListN.{length, getD, length-append}
 use lib.Dec.{ltb}
 use borrow.Author.Tests.{ltb-true}
 use Rattle.model.specs.declared.Constant.{Constant}
@@ -18,6 +19,9 @@ use Rattle.model.specs.declared.Code.the-variants.{Leaf, Fact, Action, One, Two
 use Rattle.model.specs.logic.Formula.{Formula, constant, fact, action, unary, binary, choose, encode}
 use Rattle.model.specs.logic.Reading.{Parsed, formula, wrong, then, andThen, numbered, operands}
 use Rattle.model.specs.logic.NormalForm.{nnf}
+use Rattle.model.specs.logic.Parts.{size}
+use Rattle.normal.specs.declared.heading.Head.{Head}
+use Rattle.normal.specs.declared.heading.Head.the-variants.{Nothing, Single, Pair, Triple}
 use Rattle.normal.specs.Heading.{bytesIn, head0, head1, head2, headNumber, headOf, heading, sign}
 use Rattle.normal.specs.Writing.{Whole, behind, bytesOf}
 
@@ -61,6 +65,21 @@ text2 Until φ ψ true = refl
 text2 Until φ ψ false = refl
 text2 Release φ ψ true = refl
 text2 Release φ ψ false = refl
+
+short : (h : Head) → length (bytesIn h) ≤ 3
+short Nothing = omega arith
+short (Single a) = omega arith
+short (Pair a b) = omega arith
+short (Triple a b c) = omega arith
+
+-- a text has at most three times as many bytes as the formula
+pub text-bound : (φ : Formula) (b : Bool) → length (encode (nnf φ b)) ≤ 3 * size φ
+unfolding size
+text-bound (constant c) b = rw (text0 c b, append-nil) (short (head0 c b))
+text-bound (fact n) b = rw (textFact n b, append-nil) (omega (arith, short (headNumber 0x03 n b)))
+text-bound (action n) b = rw (textAction n b, append-nil) (omega (arith, short (headNumber 0x04 n b)))
+text-bound (unary o φ) b = rw (text1 o φ b, length-append) (omega (arith, short (head1 o b), text-bound φ (sign o b)))
+text-bound (binary o φ ψ) b = rw (text2 o φ ψ b, length-append, length-append) (omega (arith, short (head2 o b), text-bound φ b, text-bound ψ b))
 
 -- what was read has a text of a heading and a rest, and ends at a position
 pub record Node (p : Parsed) (b : Bool) (head rest : List ℕ) (end : ℕ) : Type 0 where
