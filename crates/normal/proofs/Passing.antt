@@ -1,6 +1,6 @@
 -- Going past a node: what is known of it once its heading is dealt with, what its operands ask, and where it ends.
 use mathlib.Core.Path.{_≡_, refl, sym, ap, ap₂, _∙_, subst, subst⁻¹}
-use mathlib.Core.Bool.{Bool, true, false}
+use mathlib.Core.Bool.{Bool}
 use mathlib.Core.Logic.{_⊎_, inl, inr}
 use mathlib.Core.List.{List, [], _++_}
 use Prim.Native.Nat.{ℕ, _+_, _<_, _≤_}
@@ -13,7 +13,7 @@ use Rattle.model.specs.declared.Unary.{Unary}
 use Rattle.model.specs.declared.Binary.{Binary}
 use Rattle.model.specs.declared.Code.{Code}
 use Rattle.model.specs.declared.Code.the-variants.{Leaf, Fact, Action, One, Two, Unknown}
-use Rattle.model.specs.logic.Formula.{Formula, codeOf}
+use Rattle.model.specs.logic.Formula.{codeOf}
 use Rattle.model.specs.logic.Reading.{Parsed, formula, wrong, operands, parsed}
 use Rattle.model.proofs.logic.ReadingLaws.{at-the-end, by-code, parsed-grows}
 use Rattle.normal.specs.declared.Ends.{Ends}

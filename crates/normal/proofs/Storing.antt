@@ -1,5 +1,5 @@
 -- Storing a node's text: its heading, and then what is left of it.
-use mathlib.Core.Path.{_≡_, refl, sym, ap, ap₂, _∙_, subst, subst⁻¹}
+use mathlib.Core.Path.{_≡_, refl, sym, ap, ap₂, _∙_}
 use mathlib.Core.Bool.{Bool}
 use mathlib.Core.Logic.{_⊎_}
 use mathlib.Core.List.{List, [], _∷_, _++_}
@@ -16,8 +16,9 @@ use Rattle.model.specs.declared.Code.the-variants.{Leaf, Fact, Action, One, Two
 use Rattle.model.specs.logic.Reading.{Parsed, parsed}
 use Rattle.normal.specs.declared.Ends.{Ends}
 use Rattle.normal.specs.Heading.{heading, sign}
-use Rattle.normal.specs.Writing.{behind, bytesOf, Room, endsOf, Stored}
-use Rattle.normal.proofs.Passing.{Passed, NodeHere, leaf-node, number-node, one-node, two-node, leaf-ends, number-ends, one-asks, one-ends, two-asks, two-asks′, two-ends}
+use Rattle.normal.specs.Writing.{behind, bytesOf, Room, Stored}
+use Rattle.normal.proofs.Passing.{Passed, NodeHere, leaf-node, number-node, one-node, two-node}
+use Rattle.normal.proofs.Passing.{leaf-ends, number-ends, one-asks, one-ends, two-asks, two-asks′, two-ends}
 
 -- two runs of stores, one behind the other
 sets-append : (xs ys l : List ℕ) (i : ℕ) → sets (sets l i xs) (i + length xs) ys ≡ sets l i (xs ++ ys)

@@ -22,7 +22,7 @@ use Rattle.model.specs.logic.NormalForm.{nnf}
 use Rattle.model.specs.logic.Parts.{size}
 use Rattle.normal.specs.declared.heading.Head.{Head}
 use Rattle.normal.specs.declared.heading.Head.the-variants.{Nothing, Single, Pair, Triple}
-use Rattle.normal.specs.Heading.{bytesIn, head0, head1, head2, headNumber, headOf, heading, sign}
+use Rattle.normal.specs.Heading.{bytesIn, head0, head1, head2, headNumber, heading, sign}
 use Rattle.normal.specs.Writing.{Whole, behind, bytesOf}
 
 text0 : (c : Constant) (b : Bool) → encode (nnf (constant c) b) ≡ bytesIn (head0 c b) ++ []
@@ -99,16 +99,16 @@ module _ (s : List ℕ) (at : ℕ) (b : Bool) (rec : ℕ → Parsed) where
   unfolding operands behind bytesOf
   read-leaf c = record { text = text0 c b; ends = refl }
 
+  abbrev found : (ℕ → Formula) → Parsed
+  found f = formula (f (getD s (at + 1) 0)) (at + 1 + 1)
+
   -- a number that was read was there
-  read-number : (f : ℕ → Formula) → Whole (numbered 64 64 s f 64 (at + 1))
-      → (at + 1 < length s) × (numbered 64 64 s f 64 (at + 1) ≡ formula (f (getD s (at + 1) 0)) (at + 1 + 1))
+  read-number : (f : ℕ → Formula) → Whole (numbered 64 64 s f 64 (at + 1)) → (at + 1 < length s) × (numbered 64 64 s f 64 (at + 1) ≡ found f)
   unfolding numbered Whole
   read-number f w = go (ltb (at + 1) (length s)) (ltb (getD s (at + 1) 0) 64) refl w
     where
-      go : (t u : Bool) → ltb (at + 1) (length s) ≡ t
-          → Whole (choose t (choose u (formula (f (getD s (at + 1) 0)) (at + 1 + 1)) (wrong (at + 1))) (wrong (length s)))
-          → (at + 1 < length s)
-          × (choose t (choose u (formula (f (getD s (at + 1) 0)) (at + 1 + 1)) (wrong (at + 1))) (wrong (length s)) ≡ formula (f (getD s (at + 1) 0)) (at + 1 + 1))
+      go : (t u : Bool) → ltb (at + 1) (length s) ≡ t → Whole (choose t (choose u (found f) (wrong (at + 1))) (wrong (length s)))
+          → (at + 1 < length s) × (choose t (choose u (found f) (wrong (at + 1))) (wrong (length s)) ≡ found f)
       go false u e w = absurd w
       go true false e w = absurd w
       go true true e w = (ltb-true (at + 1) (length s) e, refl)

@@ -1,5 +1,5 @@
 -- Writing a rule back, once the verdict on it and the length of its normal form are known.
-use mathlib.Core.Path.{_≡_, refl, sym, ap, ap₂, _∙_, subst⁻¹}
+use mathlib.Core.Path.{_≡_, sym, ap, ap₂, _∙_, subst⁻¹}
 use mathlib.Core.Bool.{true}
 use mathlib.Core.List.{List, _++_}
 use Prim.Native.Nat.{ℕ, _+_, _<_, _≤_}
@@ -16,7 +16,7 @@ use Rattle.model.specs.logic.Formula.{Formula}
 use Rattle.model.specs.logic.Parts.{size}
 use Rattle.model.specs.logic.Reading.{Parsed, formula, parsed, section}
 use Rattle.model.specs.calls.Search.{writtenOver}
-use Rattle.model.specs.calls.WriteBack.{WriteEnd, ruleVerdict, rewritten, into, writtenBack}
+use Rattle.model.specs.calls.WriteBack.{ruleVerdict, rewritten, into, writtenBack}
 use Rattle.model.proofs.logic.ReadingLaws.{section-from, parsed-size, parsed-wider}
 use Rattle.normal.specs.declared.Ends.{Ends}
 use Rattle.normal.specs.Writing.{Whole, bytesOf, Room, endsOf, writeEnd}
@@ -51,7 +51,8 @@ module _ (v a : ℕ) (rule : List ℕ) where
   passes e =
       let x = rule-fine v a rule e in
       let y = section-from v a rule (x .3) (x .4) (x .5) in
-      (x .3, x .4, x .5, parsed-wider v a 64 64 rule (x .0) (x .1) 0 (x .3) (x .4) (y .0), omega (arith, x .2, y .1, parsed-size v a rule 0 (x .3) (x .4) (y .0)))
+      let z = parsed-wider v a 64 64 rule (x .0) (x .1) 0 (x .3) (x .4) (y .0) in
+      (x .3, x .4, x .5, z, omega (arith, x .2, y .1, parsed-size v a rule 0 (x .3) (x .4) (y .0)))
 
   -- its normal form has at most 384 bytes
   pub has-room : ruleVerdict v a rule ≡ Fine → Room p true 0 384
@@ -87,7 +88,8 @@ module _ (v a : ℕ) (rule : List ℕ) where
       pub fits : m .to ≤ length out → Room p true 0 (length out)
       fits h = (has-room e .0, omega (arith, needed))
 
-      pub done : m .to ≤ length out → (out′ : List ℕ) → out′ ≡ sets out 0 (bytesOf p true) → writeEnd (Written (m .to)) out′ ≡ writtenBack v a rule out
+      pub done : m .to ≤ length out → (out′ : List ℕ) → out′ ≡ sets out 0 (bytesOf p true)
+          → writeEnd (Written (m .to)) out′ ≡ writtenBack v a rule out
       done h out′ w =
           let g : length (bytesOf p true) ≤ length out = omega (arith, needed) in
           ap₂ (λ (n : ℕ) (l : List ℕ). writeEnd (Written n) l) needed w ∙ into-done (bytesOf p true) out g ∙ goes-on

@@ -1,6 +1,7 @@
 // Writes a rule back in positive normal form. A formula is gone through byte by byte: a node's heading, the bytes that stand before its
 // operands in the normal form, and then the operands. `plain` is the sign: whether the formula is written, or its negation.
 pub mod heading;
+
 use model::Code;
 use model::Refusal;
 use model::Rewritten;
@@ -37,14 +38,8 @@ fn measure(s: &[u8], at: usize, to: usize, plain: bool) -> Ends
     let k = heading::pass_head(to, code, byte_at(s, b), plain);
     match code {
         Code::Leaf(_) => Ends { next: b, to: k },
-        Code::Fact => Ends {
-            next: b + 1,
-            to: k,
-        },
-        Code::Action => Ends {
-            next: b + 1,
-            to: k,
-        },
+        Code::Fact => Ends { next: b + 1, to: k },
+        Code::Action => Ends { next: b + 1, to: k },
         Code::One(o) => measure(s, b, k, heading::sign_of(o, plain)),
         Code::Two(_) => {
             let p = measure(s, b, k, plain);
@@ -67,14 +62,8 @@ pub fn write(s: &[u8], at: usize, out: &mut [u8], to: usize) -> Ends
     let k = heading::put_head(out, to, code, byte_at(s, b), true);
     match code {
         Code::Leaf(_) => Ends { next: b, to: k },
-        Code::Fact => Ends {
-            next: b + 1,
-            to: k,
-        },
-        Code::Action => Ends {
-            next: b + 1,
-            to: k,
-        },
+        Code::Fact => Ends { next: b + 1, to: k },
+        Code::Action => Ends { next: b + 1, to: k },
         Code::One(o) => if heading::sign_of(o, true) {
             write(s, b, out, k)
         } else {
@@ -101,14 +90,8 @@ pub fn write_negated(s: &[u8], at: usize, out: &mut [u8], to: usize) -> Ends
     let k = heading::put_head(out, to, code, byte_at(s, b), false);
     match code {
         Code::Leaf(_) => Ends { next: b, to: k },
-        Code::Fact => Ends {
-            next: b + 1,
-            to: k,
-        },
-        Code::Action => Ends {
-            next: b + 1,
-            to: k,
-        },
+        Code::Fact => Ends { next: b + 1, to: k },
+        Code::Action => Ends { next: b + 1, to: k },
         Code::One(o) => if heading::sign_of(o, false) {
             write(s, b, out, k)
         } else {
@@ -129,10 +112,16 @@ fn rule_verdict(facts: u8, actions: u8, rule: &[u8]) -> Verdict
     ensures { λ r. ⌜ r ≡ ruleVerdict facts actions (now (rule .entry)) ⌝ }
 {
     if facts < 1 || 64 < facts || 64 < actions {
-        return Verdict::Bad(Refusal { number: 1, place: 0 });
+        return Verdict::Bad(Refusal {
+            number: 1,
+            place: 0,
+        });
     }
     if rule.len() < 1 || 128 < rule.len() {
-        return Verdict::Bad(Refusal { number: 2, place: 0 });
+        return Verdict::Bad(Refusal {
+            number: 2,
+            place: 0,
+        });
     }
     formula::check(rule, 0, facts, actions)
 }

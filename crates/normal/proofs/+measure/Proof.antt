@@ -1,16 +1,13 @@
 -- `measure` goes past a formula: each arm hands what the calls gave to the laws of passing. The bytes left become fewer.
-use mathlib.Core.Path.{_≡_, ap, _∙_}
-use mathlib.Core.Bool.{Bool}
 use mathlib.Core.Logic.{inl, inr}
-use mathlib.Core.List.{List}
-use Prim.Native.Nat.{ℕ, _<_, _-_, _+_}
+use Prim.Native.Nat.{ℕ, _<_, _-_}
 use native.Mathlib.Omega.{arith}
 use lib.ListN.{length}
 use borrow.Author.Needs.{needs}
 use borrow.Fn.Kinds.{In}
 use borrow.Fn.PlainCycle.{Measures, is, falls, and}
-use Rattle.normal.specs.Heading.{heading}
-use Rattle.normal.proofs.Passing.{Met, Passed, inside, head-fits, number-node, leaf-ends, number-ends, one-asks, one-ends, two-asks, two-grows, two-asks′, two-ends, unknown}
+use Rattle.normal.proofs.Passing.{Met, Passed, inside, head-fits, number-node, unknown}
+use Rattle.normal.proofs.Passing.{leaf-ends, number-ends, one-asks, one-ends, two-asks, two-grows, two-asks′, two-ends}
 use Rattle.normal.proofs.measure.Reads as measure
 use Rattle.normal.proofs.measure.Kinds as measure-kinds
 use Rattle.normal.proofs.+measure.Lts-measure as measure-lts
@@ -54,12 +51,15 @@ module _ (t : ℕ) where
   abbrev Behind : Type 0
   Behind = measure-lts.After-pass-head claims (measure-at t) measure.Post
 
+  -- the node is there
   within : (c : Begin) → c .args .at < length (c .args .s .now)
   within c = inside (c .args .s .now) (c .args .at) (c .pre .1 .0)
 
+  -- its code is known
   met : (c : Coded) → (let a = c .before .before .before .args in Met (a .s .now) (a .at) (a .plain) (a .to) 384 (c .code-of .result))
   met c = record { room = c .before .before .before .pre .1; code = c .code-of .ensures }
 
+  -- its heading is passed
   passed : (c : Behind)
       → (let a = c .before .before .before .before .before .args in
       Passed (a .s .now) (a .at) (a .plain) (a .to) 384 (c .before .before .code-of .result) (c .pass-head .result))
@@ -84,7 +84,8 @@ module _ (t : ℕ) where
   measure-requires c κs =
       let p = c .before .before .before .before in
       let l = within (p .before .before .before .before .before) in
-      (omega (arith, l), one-asks (passed p) (c .before .before .code .given .0 .0) (c .before .before .code .given .1) (c .sign-of .result) (c .sign-of .ensures))
+      let o = c .before .before .code .given in
+      (omega (arith, l), one-asks (passed p) (o .0 .0) (o .1) (c .sign-of .result) (c .sign-of .ensures))
 
   measure-requires-2 : measure-lts.Need-measure-requires-2 claims (measure-at t) measure.Post
   measure-requires-2 c κs =
@@ -98,7 +99,8 @@ module _ (t : ℕ) where
       let l = within (p .before .before .before .before .before) in
       let o = c .before .enum-told4 .given in
       let r = c .measure2 in
-      (omega (arith, l, two-grows (passed p) (o .0 .0) (o .1) (r .result) (r .ensures)), two-asks′ (passed p) (o .0 .0) (o .1) (r .result) (r .ensures))
+      let n = two-grows (passed p) (o .0 .0) (o .1) (r .result) (r .ensures) in
+      (omega (arith, l, n), two-asks′ (passed p) (o .0 .0) (o .1) (r .result) (r .ensures))
 
   returns : measure-lts.Need-returns claims (measure-at t) measure.Post
   returns c = leaf-ends (passed (c .before .before)) (c .enum-told .given .0 .0) (c .enum-told .given .1)
@@ -113,7 +115,8 @@ module _ (t : ℕ) where
   returns-4 c =
       let o = c .before .before .before .code .given in
       let f = c .before .sign-of in
-      one-ends (passed (c .before .before .before .before .before)) (o .0 .0) (o .1) (f .result) (f .ensures) (c .measure .result) (c .measure .ensures)
+      let r = c .measure in
+      one-ends (passed (c .before .before .before .before .before)) (o .0 .0) (o .1) (f .result) (f .ensures) (r .result) (r .ensures)
 
   returns-5 : measure-lts.Need-returns-5 claims (measure-at t) measure.Post
   returns-5 c =

@@ -1,15 +1,15 @@
 -- `write` and `write_negated` write a formula's normal form and that of its negation: each arm hands what the calls gave to the laws of storing,
 -- which hold for both signs. The bytes left become fewer with each call.
-use mathlib.Core.Path.{_≡_, sym, _∙_}
+use mathlib.Core.Path.{sym, _∙_}
 use mathlib.Core.Bool.{true, false}
 use mathlib.Core.Logic.{inl, inr}
-use Prim.Native.Nat.{ℕ, _<_, _-_, _+_}
+use Prim.Native.Nat.{ℕ, _<_, _-_}
 use native.Mathlib.Omega.{arith}
 use lib.ListN.{length}
 use borrow.Author.Needs.{needs}
 use borrow.Fn.Kinds.{In}
 use borrow.Fn.PlainCycle.{Measures, is, falls, and}
-use Rattle.normal.proofs.Passing.{Met, Passed, inside, head-fits, number-node, two-grows, unknown}
+use Rattle.normal.proofs.Passing.{Met, inside, head-fits, number-node, two-grows, unknown}
 use Rattle.normal.proofs.Storing.{Begun, leaf-stored, number-stored, one-wants, one-stored, two-wants, two-wants′, two-stored}
 use Rattle.normal.proofs.write.Reads as write
 use Rattle.normal.proofs.write.Kinds as write-kinds
@@ -67,16 +67,22 @@ module _ (t : ℕ) where
   abbrev write-begun : Type 0
   write-begun = write-lts.After-slice-known2 (claims t) (write-at t) write.Post
 
+  -- the node is there
   write-within : (c : write-lts.Start (claims t) (write-at t) write.Post) → c .args .at < length (c .args .s .now)
   write-within c = inside (c .args .s .now) (c .args .at) (c .pre .1 .0)
 
+  abbrev write-start : write-begun → write-lts.Start (claims t) (write-at t) write.Post
+  write-start c = c .before .before .before .before .before .before .before .before .before
+
+  -- its code is known
   write-met : (c : write-coded)
       → (let a = c .before .before .before .before .args in Met (a .s .now) (a .at) true (a .to) (length (a .out .now)) (c .code-of .result))
   write-met c = record { room = c .before .before .before .before .pre .1; code = c .code-of .ensures }
 
+  -- its heading is stored
   write-head : (c : write-begun)
-      → (let d = c .before .before .before .before .before in
-      let a = d .before .before .before .before .args in
+      → (let a = write-start c .args in
+      let d = c .before .before .before .before .before in
       let p = c .before .before .put-head in
       Begun (a .s .now) (a .at) true (a .to) (a .out .now) (d .code-of .result) (p .result) (p .last .0))
   write-head c =
@@ -84,7 +90,7 @@ module _ (t : ℕ) where
       let e = p .before .byte-at .ensures in
       record {
         passed = record { met = write-met (p .before .before .before); moved = rw (← e) (p .put-head .ensures .0) };
-        stored = rw (← e) (p .put-head .ensures .1)
+        stored = rw (← e) (p .put-head .ensures .1);
       }
 
   write-read-byte : write-lts.Need-shared-slice-read-byte (claims t) (write-at t) write.Post
@@ -105,28 +111,28 @@ module _ (t : ℕ) where
   write-write-requires : write-lts.Need-write-requires (claims t) (write-at t) write.Post
   write-write-requires c κs =
       let g = c .before .before .before .before .before .before in
-      let l = write-within (g .before .before .before .before .before .before .before .before .before) in
+      let l = write-within (write-start g) in
       let o = c .before .before .before .before .code .given in
       (omega (arith, l), one-wants (write-head g) (o .0 .0) (o .1) true (sym (c .before .if1 .taken) ∙ c .before .before .sign-of .ensures))
 
   write-write-negated-requires : write-lts.Need-write-negated-requires (claims t) (write-at t) write.Post
   write-write-negated-requires c κs =
       let g = c .before .before .before .before .before .before in
-      let l = write-within (g .before .before .before .before .before .before .before .before .before) in
+      let l = write-within (write-start g) in
       let o = c .before .before .before .before .code .given in
       (omega (arith, l), one-wants (write-head g) (o .0 .0) (o .1) false (sym (c .before .if1 .left) ∙ c .before .before .sign-of .ensures))
 
   write-write-requires-2 : write-lts.Need-write-requires-2 (claims t) (write-at t) write.Post
   write-write-requires-2 c κs =
       let g = c .before .before .before in
-      let l = write-within (g .before .before .before .before .before .before .before .before .before) in
+      let l = write-within (write-start g) in
       let o = c .before .enum-told4 .given in
       (omega (arith, l), two-wants (write-head g) (o .0 .0) (o .1))
 
   write-write-requires-3 : write-lts.Need-write-requires-3 (claims t) (write-at t) write.Post
   write-write-requires-3 c κs =
       let g = c .before .before .before .before .before .before .before in
-      let l = write-within (g .before .before .before .before .before .before .before .before .before) in
+      let l = write-within (write-start g) in
       let o = c .before .before .before .before .before .enum-told4 .given in
       let r = c .before .before .before .write2 in (
         omega (arith, l, two-grows (write-head g .passed) (o .0 .0) (o .1) (r .result) (r .ensures .0)),
@@ -147,16 +153,16 @@ module _ (t : ℕ) where
       let d = c .before .before .before .before in
       let o = d .before .before .before .code .given in
       let r = c .before .before .write in
-      one-stored (write-head (d .before .before .before .before .before)) (o .0 .0) (o .1) true (sym (d .if1 .taken) ∙ d .before .sign-of .ensures)
-      (r .result) (r .last .1 .1 .0) (r .ensures)
+      one-stored (write-head (d .before .before .before .before .before)) (o .0 .0) (o .1) true
+      (sym (d .if1 .taken) ∙ d .before .sign-of .ensures) (r .result) (r .last .1 .1 .0) (r .ensures)
 
   write-returns-5 : write-lts.Need-returns-5 (claims t) (write-at t) write.Post
   write-returns-5 c =
       let d = c .before .before .before .before in
       let o = d .before .before .before .code .given in
       let r = c .before .before .write-negated in
-      one-stored (write-head (d .before .before .before .before .before)) (o .0 .0) (o .1) false (sym (d .if1 .left) ∙ d .before .sign-of .ensures)
-      (r .result) (r .last .1 .1 .0) (r .ensures)
+      one-stored (write-head (d .before .before .before .before .before)) (o .0 .0) (o .1) false
+      (sym (d .if1 .left) ∙ d .before .sign-of .ensures) (r .result) (r .last .1 .1 .0) (r .ensures)
 
   write-returns-6 : write-lts.Need-returns-6 (claims t) (write-at t) write.Post
   write-returns-6 c =
@@ -178,16 +184,22 @@ module _ (t : ℕ) where
   abbrev write-negated-begun : Type 0
   write-negated-begun = write-negated-lts.After-slice-known2 (claims t) (write-negated-at t) write-negated.Post
 
+  -- the node is there
   write-negated-within : (c : write-negated-lts.Start (claims t) (write-negated-at t) write-negated.Post) → c .args .at < length (c .args .s .now)
   write-negated-within c = inside (c .args .s .now) (c .args .at) (c .pre .1 .0)
 
+  abbrev write-negated-start : write-negated-begun → write-negated-lts.Start (claims t) (write-negated-at t) write-negated.Post
+  write-negated-start c = c .before .before .before .before .before .before .before .before .before
+
+  -- its code is known
   write-negated-met : (c : write-negated-coded)
       → (let a = c .before .before .before .before .args in Met (a .s .now) (a .at) false (a .to) (length (a .out .now)) (c .code-of .result))
   write-negated-met c = record { room = c .before .before .before .before .pre .1; code = c .code-of .ensures }
 
+  -- its heading is stored
   write-negated-head : (c : write-negated-begun)
-      → (let d = c .before .before .before .before .before in
-      let a = d .before .before .before .before .args in
+      → (let a = write-negated-start c .args in
+      let d = c .before .before .before .before .before in
       let p = c .before .before .put-head in
       Begun (a .s .now) (a .at) false (a .to) (a .out .now) (d .code-of .result) (p .result) (p .last .0))
   write-negated-head c =
@@ -195,7 +207,7 @@ module _ (t : ℕ) where
       let e = p .before .byte-at .ensures in
       record {
         passed = record { met = write-negated-met (p .before .before .before); moved = rw (← e) (p .put-head .ensures .0) };
-        stored = rw (← e) (p .put-head .ensures .1)
+        stored = rw (← e) (p .put-head .ensures .1);
       }
 
   write-negated-read-byte : write-negated-lts.Need-shared-slice-read-byte (claims t) (write-negated-at t) write-negated.Post
@@ -216,28 +228,28 @@ module _ (t : ℕ) where
   write-negated-write-requires : write-negated-lts.Need-write-requires (claims t) (write-negated-at t) write-negated.Post
   write-negated-write-requires c κs =
       let g = c .before .before .before .before .before .before in
-      let l = write-negated-within (g .before .before .before .before .before .before .before .before .before) in
+      let l = write-negated-within (write-negated-start g) in
       let o = c .before .before .before .before .code .given in
       (omega (arith, l), one-wants (write-negated-head g) (o .0 .0) (o .1) true (sym (c .before .if1 .taken) ∙ c .before .before .sign-of .ensures))
 
   write-negated-write-negated-requires : write-negated-lts.Need-write-negated-requires (claims t) (write-negated-at t) write-negated.Post
   write-negated-write-negated-requires c κs =
       let g = c .before .before .before .before .before .before in
-      let l = write-negated-within (g .before .before .before .before .before .before .before .before .before) in
+      let l = write-negated-within (write-negated-start g) in
       let o = c .before .before .before .before .code .given in
       (omega (arith, l), one-wants (write-negated-head g) (o .0 .0) (o .1) false (sym (c .before .if1 .left) ∙ c .before .before .sign-of .ensures))
 
   write-negated-write-negated-requires-2 : write-negated-lts.Need-write-negated-requires-2 (claims t) (write-negated-at t) write-negated.Post
   write-negated-write-negated-requires-2 c κs =
       let g = c .before .before .before in
-      let l = write-negated-within (g .before .before .before .before .before .before .before .before .before) in
+      let l = write-negated-within (write-negated-start g) in
       let o = c .before .enum-told4 .given in
       (omega (arith, l), two-wants (write-negated-head g) (o .0 .0) (o .1))
 
   write-negated-write-negated-requires-3 : write-negated-lts.Need-write-negated-requires-3 (claims t) (write-negated-at t) write-negated.Post
   write-negated-write-negated-requires-3 c κs =
       let g = c .before .before .before .before .before .before .before in
-      let l = write-negated-within (g .before .before .before .before .before .before .before .before .before) in
+      let l = write-negated-within (write-negated-start g) in
       let o = c .before .before .before .before .before .enum-told4 .given in
       let r = c .before .before .before .write-negated2 in (
         omega (arith, l, two-grows (write-negated-head g .passed) (o .0 .0) (o .1) (r .result) (r .ensures .0)),
@@ -258,16 +270,16 @@ module _ (t : ℕ) where
       let d = c .before .before .before .before in
       let o = d .before .before .before .code .given in
       let r = c .before .before .write in
-      one-stored (write-negated-head (d .before .before .before .before .before)) (o .0 .0) (o .1) true (sym (d .if1 .taken) ∙ d .before .sign-of .ensures)
-      (r .result) (r .last .1 .1 .0) (r .ensures)
+      one-stored (write-negated-head (d .before .before .before .before .before)) (o .0 .0) (o .1) true
+      (sym (d .if1 .taken) ∙ d .before .sign-of .ensures) (r .result) (r .last .1 .1 .0) (r .ensures)
 
   write-negated-returns-5 : write-negated-lts.Need-returns-5 (claims t) (write-negated-at t) write-negated.Post
   write-negated-returns-5 c =
       let d = c .before .before .before .before in
       let o = d .before .before .before .code .given in
       let r = c .before .before .write-negated in
-      one-stored (write-negated-head (d .before .before .before .before .before)) (o .0 .0) (o .1) false (sym (d .if1 .left) ∙ d .before .sign-of .ensures)
-      (r .result) (r .last .1 .1 .0) (r .ensures)
+      one-stored (write-negated-head (d .before .before .before .before .before)) (o .0 .0) (o .1) false
+      (sym (d .if1 .left) ∙ d .before .sign-of .ensures) (r .result) (r .last .1 .1 .0) (r .ensures)
 
   write-negated-returns-6 : write-negated-lts.Need-returns-6 (claims t) (write-negated-at t) write-negated.Post
   write-negated-returns-6 c =
@@ -282,73 +294,19 @@ module _ (t : ℕ) where
   write-negated-returns-7 c = absurd (unknown (write-negated-head (c .before .before) .passed .met) (c .enum-told5 .given .1))
 
 pub +write+write-negated-spec : {M : Type 1} → statement M
-+write+write-negated-spec = close μ-write μ-write-negated (λ t. write-lts.spec (claims t)
-    (write-at t)
-    write.Post
-    (write-read-byte t)
-    (λ c κs. search needs)
-    (write-add-b t)
-    (λ c κs. search needs)
-    (write-put-head-requires t)
-    (λ c. search needs)
-    (λ c. search needs)
-    (write-add-t18 t)
-    (λ c. search needs)
-    (write-add-t19 t)
-    (λ c. search needs)
-    (λ c κs. search needs)
-    (write-write-requires t)
-    (write-write-negated-requires t)
-    (λ c. search needs)
-    (write-write-requires-2 t)
-    (write-write-requires-3 t)
-    (λ c. search needs)
-    (λ c. search needs)
-    (write-returns t)
-    (λ c. search needs)
-    (write-returns-2 t)
-    (λ c. search needs)
-    (write-returns-3 t)
-    (λ c. search needs)
-    (write-returns-4 t)
-    (λ c. search needs)
-    (write-returns-5 t)
-    (λ c. search needs)
-    (write-returns-6 t)
-    (λ c. search needs)
-    (write-returns-7 t))
-    λ t. write-negated-lts.spec (claims t)
-    (write-negated-at t)
-    write-negated.Post
-    (write-negated-read-byte t)
-    (λ c κs. search needs)
-    (write-negated-add-b t)
-    (λ c κs. search needs)
-    (write-negated-put-head-requires t)
-    (λ c. search needs)
-    (λ c. search needs)
-    (write-negated-add-t18 t)
-    (λ c. search needs)
-    (write-negated-add-t19 t)
-    (λ c. search needs)
-    (λ c κs. search needs)
-    (write-negated-write-requires t)
-    (write-negated-write-negated-requires t)
-    (λ c. search needs)
-    (write-negated-write-negated-requires-2 t)
-    (write-negated-write-negated-requires-3 t)
-    (λ c. search needs)
-    (λ c. search needs)
-    (write-negated-returns t)
-    (λ c. search needs)
-    (write-negated-returns-2 t)
-    (λ c. search needs)
-    (write-negated-returns-3 t)
-    (λ c. search needs)
-    (write-negated-returns-4 t)
-    (λ c. search needs)
-    (write-negated-returns-5 t)
-    (λ c. search needs)
-    (write-negated-returns-6 t)
-    (λ c. search needs)
-    (write-negated-returns-7 t)
++write+write-negated-spec =
+    close μ-write μ-write-negated
+    (λ t. write-lts.spec (claims t) (write-at t) write.Post (write-read-byte t) (λ c κs. search needs) (write-add-b t) (λ c κs. search needs)
+    (write-put-head-requires t) (λ c. search needs) (λ c. search needs) (write-add-t18 t) (λ c. search needs) (write-add-t19 t)
+    (λ c. search needs) (λ c κs. search needs) (write-write-requires t) (write-write-negated-requires t) (λ c. search needs)
+    (write-write-requires-2 t) (write-write-requires-3 t) (λ c. search needs) (λ c. search needs) (write-returns t) (λ c. search needs)
+    (write-returns-2 t) (λ c. search needs) (write-returns-3 t) (λ c. search needs) (write-returns-4 t) (λ c. search needs) (write-returns-5 t)
+    (λ c. search needs) (write-returns-6 t) (λ c. search needs) (write-returns-7 t))
+    (λ t. write-negated-lts.spec (claims t) (write-negated-at t) write-negated.Post (write-negated-read-byte t) (λ c κs. search needs)
+    (write-negated-add-b t) (λ c κs. search needs) (write-negated-put-head-requires t) (λ c. search needs) (λ c. search needs)
+    (write-negated-add-t18 t) (λ c. search needs) (write-negated-add-t19 t) (λ c. search needs) (λ c κs. search needs)
+    (write-negated-write-requires t) (write-negated-write-negated-requires t) (λ c. search needs) (write-negated-write-negated-requires-2 t)
+    (write-negated-write-negated-requires-3 t) (λ c. search needs) (λ c. search needs) (write-negated-returns t) (λ c. search needs)
+    (write-negated-returns-2 t) (λ c. search needs) (write-negated-returns-3 t) (λ c. search needs) (write-negated-returns-4 t)
+    (λ c. search needs) (write-negated-returns-5 t) (λ c. search needs) (write-negated-returns-6 t) (λ c. search needs)
+    (write-negated-returns-7 t))

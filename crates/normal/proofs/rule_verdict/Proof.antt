@@ -25,7 +25,9 @@ returns : tie.Need-returns
 returns c =
     let a = c .before .before .args in
     counts-wrong (a .facts) (a .actions) (a .rule .now)
-    (⊎-elim (λ w. inl (w .taken)) (λ w. inr (⊎-elim (λ x. inl (ltb-true 64 (a .facts) (x .1 .taken))) (λ x. inr (ltb-true 64 (a .actions) (x .2 .taken))) w))
+    (⊎-elim
+    (λ w. inl (w .taken))
+    (λ w. inr (⊎-elim (λ x. inl (ltb-true 64 (a .facts) (x .1 .taken))) (λ x. inr (ltb-true 64 (a .actions) (x .2 .taken))) w))
     (c .if1 .came))
 
 returns-2 : tie.Need-returns-2

@@ -12,10 +12,13 @@ use Rattle.normal.proofs.measure.Reads as measure-reads
 use Rattle.normal.proofs.rule_verdict.Reads as rule-verdict-reads
 use Rattle.normal.proofs.write.Reads as write-reads
 
+-- the place behind a verdict of no refusal
 abbrev Passed : Type 0
 Passed =
-    lts.After-enum-told (rule-verdict-reads.Asked, rule-verdict-reads.Learnt, measure-reads.Asked, measure-reads.Learnt, write-reads.Asked, write-reads.Learnt)
-    reads.Pre reads.Post
+    lts.After-enum-told
+    (rule-verdict-reads.Asked, rule-verdict-reads.Learnt, measure-reads.Asked, measure-reads.Learnt, write-reads.Asked, write-reads.Learnt)
+    reads.Pre
+    reads.Post
 
 fine : (c : Passed) → (let a = c .before .before .before .before .before .args in ruleVerdict (a .facts) (a .actions) (a .rule .now) ≡ Fine)
 fine c = sym (c .before .before .rule-verdict .ensures) ∙ c .enum-told .given .1
@@ -47,7 +50,8 @@ returns-3 c =
     let d = c .before .before .before .before in
     let m = d .before .measure in
     let w = c .before .before .write in
-    done (a .facts) (a .actions) (a .rule .now) (a .out .now) (fine (d .before .before)) (m .result) (m .ensures) (d .if1 .left) (w .last .1 .1 .0) (w .ensures .1)
+    done (a .facts) (a .actions) (a .rule .now) (a .out .now) (fine (d .before .before)) (m .result) (m .ensures) (d .if1 .left)
+    (w .last .1 .1 .0) (w .ensures .1)
 
 pub write-back-spec : {M : Type 1} → statement M
 write-back-spec =

@@ -1,9 +1,5 @@
 -- `pass_head` counts the bytes of the heading that `head_of` gives.
 use borrow.Author.Needs.{needs}
-use mathlib.Core.Path.{ap, _∙_}
-use native.Mathlib.Omega.{arith}
-use lib.ListN.{length}
-use Rattle.normal.specs.Heading.{bytesIn}
 use Rattle.normal.proofs.heading.pass_head.Statement.{statement}
 use Rattle.normal.proofs.heading.pass_head.Tie as tie
 

@@ -1,7 +1,5 @@
 -- `put_head` writes the bytes of the heading that `head_of` gives.
 use borrow.Author.Needs.{needs}
-use mathlib.Core.Path.{ap}
-use Rattle.normal.specs.Heading.{bytesIn}
 use Rattle.normal.proofs.heading.put_head.Statement.{statement}
 use Rattle.normal.proofs.heading.put_head.Tie as tie
 
