@@ -45,7 +45,7 @@ pub record Met (s : List ℕ) (at : ℕ) (b : Bool) (to size : ℕ) (k : Code) :
   pub code : k ≡ codeOf (getD s at 0)
 
 module _ {s : List ℕ} {at : ℕ} {b : Bool} {to size : ℕ} {k : Code} (m : Met s at b to size k) where
-  -- what the position's code tells of the node, handed on to what was read there
+  -- what was read here is what its code asks to read
   told : (j : Code) → k ≡ j → parsed 64 64 s at ≡ operands 64 64 s j (parsed 64 64 s) at
   told j e = by-code 64 64 s at j (inside s at (m .room .0)) (sym (m .code) ∙ e)
 
@@ -55,11 +55,13 @@ module _ {s : List ℕ} {at : ℕ} {b : Bool} {to size : ℕ} {k : Code} (m : Me
   abbrev pub NodeHere : List ℕ → ℕ → Type 0
   NodeHere rest end = Node (parsed 64 64 s at) b (heading k (getD s (at + 1) 0) b) rest end
 
+  -- a node of the code is a node here
   here : (j : Code) (e : k ≡ j) (rest : List ℕ) (end : ℕ) → NodeOf s at b (parsed 64 64 s) j rest end → NodeHere rest end
   here j e rest end x =
       subst⁻¹ (λ (p : Parsed). Node p b (heading k (getD s (at + 1) 0) b) rest end) (told j e)
       (subst⁻¹ (λ (i : Code). Node (operands 64 64 s j (parsed 64 64 s) at) b (heading i (getD s (at + 1) 0) b) rest end) e x)
 
+  -- ---- the node, by its code
   pub leaf-node : (c : Constant) → k ≡ Leaf c → NodeHere [] (at + 1)
   leaf-node c e = here (Leaf c) e _ _ (read-leaf s at b (parsed 64 64 s) c)
 
@@ -87,7 +89,7 @@ module _ {s : List ℕ} {at : ℕ} {b : Bool} {to size : ℕ} {k : Code} (m : Me
       let n = here k refl (x .0) (x .1) (x .2) in
       omega (arith, ap length (n .text), length-append (heading k (getD s (at + 1) 0) b) (x .0), m .room .1)
 
--- and j is the position behind its heading
+-- ---- a node that was met, and the position j behind its heading
 pub record Passed (s : List ℕ) (at : ℕ) (b : Bool) (to size : ℕ) (k : Code) (j : ℕ) : Type 0 where
   pub met : Met s at b to size k
   pub moved : j ≡ to + length (heading k (getD s (at + 1) 0) b)

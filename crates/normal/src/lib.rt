@@ -27,7 +27,8 @@ fn byte_at(s: &[u8], at: usize) -> u8
 }
 
 // Where the formula at a position ends, and where its normal form would end: as the two writers below, without writing.
-// A rule has at most 128 bytes, and its normal form at most three times as many.
+// A rule has at most 128 bytes, and its normal form at most three times as many. Here and in the writers a formula was read at the
+// position, so that its first byte is there and the last arm is not reached.
 fn measure(s: &[u8], at: usize, to: usize, plain: bool) -> Ends
     requires { ⌜ Room (parsed 64 64 (now s) at) plain to 384 ⌝ }
     ensures { λ r. ⌜ r ≡ endsOf (parsed 64 64 (now (s .entry)) at) plain to ⌝ }
@@ -79,7 +80,7 @@ pub fn write(s: &[u8], at: usize, out: &mut [u8], to: usize) -> Ends
     }
 }
 
-// Writes the normal form of its negation.
+// Writes the normal form of the negation of the formula at a position.
 pub fn write_negated(s: &[u8], at: usize, out: &mut [u8], to: usize) -> Ends
     requires { ⌜ Room (parsed 64 64 (now s) at) false to (length (now out)) ⌝ }
     ensures { λ r. ⌜ Stored (parsed 64 64 (now (s .entry)) at) false to (now (out .entry)) r (now (out .exit)) ⌝ }
