@@ -1,0 +1,3 @@
+-- The definitions that the writer's contracts use.
+pub mod Heading
+pub mod Writing
