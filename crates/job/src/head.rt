@@ -1,0 +1,45 @@
+// Refusal 1: a head of under 4 bytes, or a count out of range.
+use model::Verdict;
+use super::access;
+use super::checks;
+ghost use mathlib.Core.Path.{_≡_};
+ghost use mathlib.Core.Bool.{_&&_};
+ghost use Prim.Native.Nat.{_≤_};
+ghost use lib.Dec.{leb};
+ghost use lib.ListN.{length};
+ghost use Rattle.model.specs.job.Layout.{factCount, actionCount, constraintCount, hintCount};
+ghost use Rattle.model.specs.job.Decoding.{countsInRange, headVerdict};
+
+pub fn counts_in_range(facts: u8, actions: u8) -> bool
+    ensures { λ r. ⌜ r ≡ countsInRange facts actions ⌝ }
+{
+    if facts < 1 {
+        return false;
+    }
+    if 64 < facts {
+        return false;
+    }
+    actions <= 64
+}
+
+// Whether the four counts are in their ranges.
+fn head_fits(bytes: &[u8]) -> bool
+    ensures { λ r. ⌜ r ≡ (leb 4 (length (now (bytes .entry))) && countsInRange (factCount (now (bytes .entry))) (actionCount (now (bytes .entry))) && leb (constraintCount (now (bytes .entry))) 8 && leb (hintCount (now (bytes .entry))) 8) ⌝ }
+{
+    if bytes.len() < 4 {
+        return false;
+    }
+    if !counts_in_range(access::fact_count(bytes), access::action_count(bytes)) {
+        return false;
+    }
+    if 8 < access::constraint_count(bytes) {
+        return false;
+    }
+    access::hint_count(bytes) <= 8
+}
+
+pub fn check_head(bytes: &[u8]) -> Verdict
+    ensures { λ r. ⌜ r ≡ headVerdict (now (bytes .entry)) ⌝ }
+{
+    checks::unless(head_fits(bytes), 1, 0)
+}
