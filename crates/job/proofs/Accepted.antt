@@ -48,8 +48,17 @@ module _ (bytes : List ℕ) where
   pair-tests n h i l = each-true _ _ _ _ ((unless-fine _ 2 i) .0 ((inTurn-fine n (pairVerdict bytes)) .0 h i l))
 
   -- A pair that is fine has its four bytes.
-  pub pair-whole : (n : ℕ) → inTurn n (pairVerdict bytes) ≡ Fine → (i : ℕ) → i < n → 8 + 4 * i ≤ length bytes
+  pair-whole : (n : ℕ) → inTurn n (pairVerdict bytes) ≡ Fine → (i : ℕ) → i < n → 8 + 4 * i ≤ length bytes
   pair-whole n h i l = leb-true (8 + 4 * i) (length bytes) (pair-tests n h i l .0)
+
+  -- There is a pair for the task.
+  pub some-pairs : 0 < pairCount bytes
+  unfolding pairCount
+  some-pairs = omega arith
+
+  -- If all pairs are fine, all their bytes are there.
+  pub pairs-whole : inTurn (pairCount bytes) (pairVerdict bytes) ≡ Fine → 4 + 4 * pairCount bytes ≤ length bytes
+  pairs-whole h = omega (arith, some-pairs, pair-whole (pairCount bytes) h (pairCount bytes - 1) (omega (arith, some-pairs)))
 
   formula-length : (i n : ℕ) → rightLength bytes (suc i) n ≡ true → (1 ≤ n) × (n ≤ 128)
   unfolding rightLength
@@ -58,11 +67,6 @@ module _ (bytes : List ℕ) where
   task-length : (n : ℕ) → rightLength bytes 0 n ≡ true → n ≡ 16 + 26 * actionCount bytes
   unfolding rightLength
   task-length n h = eqb-true n (16 + 26 * actionCount bytes) h
-
-  -- There is a pair for the task.
-  some-pairs : 0 < pairCount bytes
-  unfolding pairCount
-  some-pairs = omega arith
 
   -- If the head and the pairs are fine, all is there.
   pub laid : headVerdict bytes ≡ Fine → pairsVerdict bytes ≡ Fine → Laid bytes
@@ -104,14 +108,14 @@ module _ {bytes : List ℕ} (l : Laid bytes) where
   unfolding actionOffset
   action-inside i h = omega (arith, l .section 0 (some-pairs bytes), l .task)
 
--- A section's bytes, as they are lent on.
+-- A section's bytes, as they are lent on: from its offset o to o + n.
 module _ (bytes : List ℕ) (i : ℕ) where
-  pub lent : (o e : ℕ) → o ≡ pairOffset bytes i → e ≡ pairOffset bytes i + pairLength bytes i → take (e - o) (drop o bytes) ≡ sectionBytes bytes i
+  pub lent : {o n : ℕ} → o ≡ pairOffset bytes i → n ≡ pairLength bytes i → take (o + n - o) (drop o bytes) ≡ sectionBytes bytes i
   unfolding sectionBytes
-  lent o e p q = let d : e - o ≡ pairLength bytes i = omega arith in rw (d, p)
+  lent {o} {n} p q = let d : o + n - o ≡ pairLength bytes i = omega arith in rw (d, p)
 
   -- The check of a section that is lent on.
-  pub lent-checked : (o e v a : ℕ) → o ≡ pairOffset bytes i → e ≡ pairOffset bytes i + pairLength bytes i → v ≡ factCount bytes → a ≡ actionCount bytes
-      → formulaVerdict o (section v a (take (e - o) (drop o bytes))) ≡ formulaVerdict (pairOffset bytes i) (formulaIn bytes i)
+  pub lent-checked : {o n v a : ℕ} → o ≡ pairOffset bytes i → n ≡ pairLength bytes i → v ≡ factCount bytes → a ≡ actionCount bytes
+      → formulaVerdict o (section v a (take (o + n - o) (drop o bytes))) ≡ formulaVerdict (pairOffset bytes i) (formulaIn bytes i)
   unfolding formulaIn
-  lent-checked o e v a p q f g = rw (lent o e p q, p, f, g)
+  lent-checked p q f g = rw (lent p q, p, f, g)

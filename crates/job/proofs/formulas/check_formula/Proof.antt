@@ -50,8 +50,8 @@ check-requires c κs = search needs
 
 -- src/formulas.rt:11:1
 returns : tie.Need-returns
-returns c = let d = c .before .before .before .before in
-    c .check .ensures ∙ lent-checked _ _ _ _ _ _ (d .before .section-offset .ensures .0) (omega arith) (d .before .before .fact-count .ensures) (d .action-count .ensures)
+returns c = let d = c .before .before in
+    c .check .ensures ∙ lent-checked _ _ (d .before .before .before .section-offset .ensures .0) (d .before .before .section-length .ensures .0) (d .before .fact-count .ensures) (d .action-count .ensures)
 
 pub check-formula-spec : {M : Type 1} → statement M
 check-formula-spec =

@@ -52,8 +52,8 @@ refuses-requires c κs = search needs
 -- src/formulas.rt:31:13
 returns : tie.Need-returns Inv-loop μ-loop
 unfolding formulasVerdict
-returns c = let b : List ℕ = c .before .before .before .before .before .before .before .args .bytes .now in
-    refused-at (formulaChecked b) (constraintCount b + hintCount b) _ _ (c .before .before .before .before .loop .inv .1) (c .before .before .check-formula .ensures) (c .before .refuses .ensures) (c .if1 .taken) (omega arith)
+returns c = let b : List ℕ = c .before .before .before .before .before .before .before .args .bytes .now in let l = c .before .before .before .before .loop in
+    refused-at (formulaChecked b) (constraintCount b + hintCount b) (l .i) _ (l .inv .1) (c .before .before .check-formula .ensures) (c .before .refuses .ensures) (c .if1 .taken) (omega arith)
 
 -- src/formulas.rt:33:9
 add-i : tie.Need-add-i Inv-loop μ-loop
@@ -71,7 +71,7 @@ loop-again c = (omega arith, fine-at (formulaChecked _) _ _ (c .before .before .
 returns-2 : tie.Need-returns-2 Inv-loop μ-loop
 unfolding formulasVerdict
 returns-2 c = let b : List ℕ = c .before .before .before .before .args .bytes .now in
-    all-fine (formulaChecked b) (constraintCount b + hintCount b) _ (c .before .loop .inv .1) (omega arith)
+    all-fine (formulaChecked b) (constraintCount b + hintCount b) (c .before .loop .i) (c .before .loop .inv .1) (omega arith)
 
 pub check-formulas-spec : {M : Type 1} → statement M
 check-formulas-spec =
