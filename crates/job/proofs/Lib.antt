@@ -2,4 +2,5 @@
 pub mod TurnLaws
 pub mod PairLaws
 pub mod SetLaws
+pub mod Bounds
 pub mod Accepted

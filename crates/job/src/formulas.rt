@@ -1,7 +1,7 @@
 // Refusals 4 and 5: each section that holds a formula is lent on to the reader of formulas.
-use model::Verdict;
 use super::access;
 use super::checks;
+use model::Verdict;
 ghost use mathlib.Core.Path.{_≡_};
 ghost use Prim.Native.Nat.{_+_, _<_};
 ghost use Rattle.model.specs.job.Layout.{constraintCount, hintCount, pairCount, pairOffset, formulaIn};

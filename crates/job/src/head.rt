@@ -1,7 +1,7 @@
 // Refusal 1: a head of under 4 bytes, or a count out of range.
-use model::Verdict;
 use super::access;
 use super::checks;
+use model::Verdict;
 ghost use mathlib.Core.Path.{_≡_};
 ghost use mathlib.Core.Bool.{_&&_};
 ghost use Prim.Native.Nat.{_≤_};

@@ -1,7 +1,7 @@
 // Refusal 2: the pairs of offset and length, in turn, and bytes after the last section.
-use model::Verdict;
 use super::access;
 use super::checks;
+use model::Verdict;
 ghost use mathlib.Core.Path.{_≡_};
 ghost use mathlib.Core.Bool.{_&&_};
 ghost use Prim.Native.Nat.{_+_, _*_, _≤_, _<_};

@@ -1,7 +1,7 @@
 // Refusal 3: a set of the task that has a fact which the job does not have.
-use model::Verdict;
 use super::access;
 use super::checks;
+use model::Verdict;
 ghost use mathlib.Core.Path.{_≡_};
 ghost use Prim.Native.Nat.{_+_, _^_, _≤_, _<_};
 ghost use lib.Dec.{ltb};

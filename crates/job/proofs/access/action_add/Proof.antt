@@ -1,31 +1,12 @@
+-- `action_add` reads an action's second set.
 use Rattle.model.specs.job.Layout.{actionAt}
-use Rattle.model.specs.Bits.{numberAt}
-use Prim.Native.Nat.{ℕ, _+_}
-use mathlib.Core.Path.{ap, _∙_}
 use borrow.Author.Needs.{needs}
 use Rattle.job.proofs.access.action_add.Statement.{statement}
 use Rattle.job.proofs.access.action_add.Tie as tie
-use Rattle.job.proofs.access.action_add.Reads as reads
-use Rattle.job.proofs.access.action_add.Lts as lts
-use Rattle.job.proofs.access.action_offset.Reads as action-offset-reads
-use Rattle.words.proofs.get64.Reads as get64-reads
 
--- src/access.rt:109:25
-action-offset-requires : tie.Need-action-offset-requires
-action-offset-requires c κs = search needs
-
--- src/access.rt:109:25
-add-get64 : tie.Need-add-get64
-add-get64 c = search needs
-
--- src/access.rt:109:5
-get64-requires : tie.Need-get64-requires
-get64-requires c κs = search needs
-
--- src/access.rt:105:1
 returns : tie.Need-returns
 unfolding actionAt
 returns c = rw (c .before .action-offset .ensures) at (c .get64 .ensures)
 
 pub action-add-spec : {M : Type 1} → statement M
-action-add-spec = tie.close (tie.spec action-offset-requires add-get64 get64-requires returns)
+action-add-spec = tie.close (tie.spec (λ c κs. search needs) (λ c. search needs) (λ c κs. search needs) returns)

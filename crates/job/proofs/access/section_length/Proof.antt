@@ -1,27 +1,12 @@
+-- `section_length` reads the second number of a pair.
 use Rattle.model.specs.job.Layout.{pairLength}
 use borrow.Author.Needs.{needs}
 use Rattle.job.proofs.access.section_length.Statement.{statement}
 use Rattle.job.proofs.access.section_length.Tie as tie
-use Rattle.job.proofs.access.section_length.Reads as reads
-use Rattle.job.proofs.access.section_length.Lts as lts
-use Rattle.words.proofs.get16.Reads as get16-reads
 
--- src/access.rt:69:29
-mul-get16 : tie.Need-mul-get16
-mul-get16 c = search needs
-
--- src/access.rt:69:25
-add-get16 : tie.Need-add-get16
-add-get16 c = search needs
-
--- src/access.rt:69:5
-get16-requires : tie.Need-get16-requires
-get16-requires c κs = search needs
-
--- src/access.rt:65:1
 returns : tie.Need-returns
 unfolding pairLength
 returns c = c .get16 .ensures
 
 pub section-length-spec : {M : Type 1} → statement M
-section-length-spec = tie.close (tie.spec mul-get16 add-get16 get16-requires returns)
+section-length-spec = tie.close (tie.spec (λ c. search needs) (λ c. search needs) (λ c κs. search needs) returns)

@@ -1,3 +1,4 @@
+-- `check_formulas` passes formulas while their checks are fine: the invariant. The first that refuses decides.
 use Rattle.model.specs.job.Layout.{constraintCount, hintCount}
 use Rattle.job.proofs.TurnLaws.{refused-at, fine-at, none-yet, all-fine}
 use Rattle.model.specs.job.Decoding.{formulaVerdict, formulasVerdict}
@@ -12,11 +13,6 @@ use native.Mathlib.Omega.{arith}
 use borrow.Author.Needs.{needs}
 use Rattle.job.proofs.formulas.check_formulas.Statement.{statement}
 use Rattle.job.proofs.formulas.check_formulas.Tie as tie
-use Rattle.job.proofs.formulas.check_formulas.Reads as reads
-use Rattle.job.proofs.formulas.check_formulas.Lts as lts
-use Rattle.job.proofs.access.formula_count.Reads as formula-count-reads
-use Rattle.job.proofs.checks.refuses.Reads as refuses-reads
-use Rattle.job.proofs.formulas.check_formula.Reads as check-formula-reads
 
 -- the check of formula i
 abbrev formulaChecked : List ℕ → ℕ → Verdict
@@ -28,46 +24,21 @@ Inv-loop bytes n i₀ i = (i ≤ n) × (inTurn i (formulaChecked bytes) ≡ Fine
 abbrev μ-loop : tie.MeasureT-loop
 μ-loop bytes n i₀ i = n - i
 
--- src/formulas.rt:26:9
-formula-count-requires : tie.Need-formula-count-requires Inv-loop μ-loop
-formula-count-requires c κs = search needs
-
--- src/formulas.rt:28:5
 loop-holds : tie.Need-loop-holds Inv-loop μ-loop
 loop-holds c = (omega arith, none-yet _)
 
--- src/formulas.rt:29:44
-add-check-formula : tie.Need-add-check-formula Inv-loop μ-loop
-add-check-formula c = search needs
-
--- src/formulas.rt:29:13
 check-formula-requires : tie.Need-check-formula-requires Inv-loop μ-loop
 unfolding pairCount
 check-formula-requires c κs = search needs
 
--- src/formulas.rt:30:12
-refuses-requires : tie.Need-refuses-requires Inv-loop μ-loop
-refuses-requires c κs = search needs
-
--- src/formulas.rt:31:13
 returns : tie.Need-returns Inv-loop μ-loop
 unfolding formulasVerdict
 returns c = let b : List ℕ = c .before .before .before .before .before .before .before .args .bytes .now in let l = c .before .before .before .before .loop in
     refused-at (formulaChecked b) (constraintCount b + hintCount b) (l .i) _ (l .inv .1) (c .before .before .check-formula .ensures) (c .before .refuses .ensures) (c .if1 .taken) (omega arith)
 
--- src/formulas.rt:33:9
-add-i : tie.Need-add-i Inv-loop μ-loop
-add-i c = search needs
-
--- src/formulas.rt:28:5
-loop-less : tie.Need-loop-less Inv-loop μ-loop
-loop-less c = search needs
-
--- src/formulas.rt:28:5
 loop-again : tie.Need-loop-again Inv-loop μ-loop
 loop-again c = (omega arith, fine-at (formulaChecked _) _ _ (c .before .before .before .before .loop .inv .1) (c .before .before .check-formula .ensures) (c .before .refuses .ensures) (c .if1 .left))
 
--- src/formulas.rt:22:1
 returns-2 : tie.Need-returns-2 Inv-loop μ-loop
 unfolding formulasVerdict
 returns-2 c = let b : List ℕ = c .before .before .before .before .args .bytes .now in
@@ -79,13 +50,13 @@ check-formulas-spec =
     (tie.spec
     Inv-loop
     μ-loop
-    formula-count-requires
+    (λ c κs. search needs)
     loop-holds
-    add-check-formula
+    (λ c. search needs)
     check-formula-requires
-    refuses-requires
+    (λ c κs. search needs)
     returns
-    add-i
-    loop-less
+    (λ c. search needs)
+    (λ c. search needs)
     loop-again
     returns-2)

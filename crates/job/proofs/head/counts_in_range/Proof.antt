@@ -1,21 +1,17 @@
+-- `counts_in_range` makes the three tests of the definition, in its order.
 use Rattle.model.specs.job.Decoding.{countsInRange}
 use borrow.Author.Tests.{lt-leb, le-leb}
 use Rattle.job.proofs.head.counts_in_range.Statement.{statement}
 use Rattle.job.proofs.head.counts_in_range.Tie as tie
-use Rattle.job.proofs.head.counts_in_range.Reads as reads
-use Rattle.job.proofs.head.counts_in_range.Lts as lts
 
--- src/head.rt:17:9
 returns : tie.Need-returns
 unfolding countsInRange
 returns c = rw (lt-leb _ _ (c .if1 .taken))
 
--- src/head.rt:20:9
 returns-2 : tie.Need-returns-2
 unfolding countsInRange
 returns-2 c = rw (le-leb _ _ (c .before .if1 .left), lt-leb _ _ (c .if2 .taken))
 
--- src/head.rt:13:1
 returns-3 : tie.Need-returns-3
 unfolding countsInRange
 returns-3 c = rw (le-leb _ _ (c .before .if1 .left), le-leb _ _ (c .if2 .left))

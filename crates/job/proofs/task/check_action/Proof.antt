@@ -1,6 +1,7 @@
+-- `check_action` checks an action's three sets, which lie inside the bytes, one after the other.
 use Rattle.model.specs.declared.Verdict.the-variants.{Fine}
 use Rattle.job.proofs.TurnLaws.{refused, fine, after}
-use Rattle.job.proofs.Accepted.{task-pair, action-inside}
+use Rattle.job.proofs.Bounds.{task-pair, action-inside}
 use Rattle.model.specs.job.Decoding.{setVerdict, actionVerdict}
 use Rattle.model.specs.job.Layout.{actionOffset}
 use native.Mathlib.Omega.{arith}
@@ -10,11 +11,6 @@ use Prim.Native.Nat.{_+_, _≤_}
 use borrow.Author.Needs.{needs}
 use Rattle.job.proofs.task.check_action.Statement.{statement}
 use Rattle.job.proofs.task.check_action.Tie as tie
-use Rattle.job.proofs.task.check_action.Reads as reads
-use Rattle.job.proofs.task.check_action.Lts as lts
-use Rattle.job.proofs.access.action_offset.Reads as action-offset-reads
-use Rattle.job.proofs.checks.refuses.Reads as refuses-reads
-use Rattle.job.proofs.task.check_set.Reads as check-set-reads
 
 -- the place behind the call of `action_offset`
 abbrev Here : Type 0
@@ -37,49 +33,32 @@ add-set c = rw (c .before .before .before .before .action-offset .ensures) at (c
 add-fine : (c : tie.Else2) → (let a = c .before .before .before .before .before .before .before .before .args in setVerdict (a .bytes .now) (actionOffset (a .bytes .now) (a .i) + 8) ≡ Fine)
 add-fine c = fine _ (add-set (c .before .before)) (c .before .refuses2 .ensures) (c .if2 .left)
 
--- src/task.rt:37:9
 action-offset-requires : tie.Need-action-offset-requires
 action-offset-requires c κs = (task-pair (c .before .pre .0), action-inside (c .before .pre .0) _ (c .before .pre .1))
 
--- src/task.rt:38:9
 check-set-requires : tie.Need-check-set-requires
 check-set-requires c κs = (c .before .before .pre .0, omega (arith, inside c))
 
--- src/task.rt:39:8
-refuses-requires : tie.Need-refuses-requires
-refuses-requires c κs = search needs
-
--- src/task.rt:40:9
 returns : tie.Need-returns
 unfolding actionVerdict
 returns c = refused _ _ _ (pre-set (c .before .before)) (c .before .refuses .ensures) (c .if1 .taken)
 
--- src/task.rt:42:32
 add-check-set : tie.Need-add-check-set
 add-check-set c = omega (arith, inside (c .before .before .before))
 
--- src/task.rt:42:9
 check-set-requires-2 : tie.Need-check-set-requires-2
 check-set-requires-2 c κs = (c .before .before .before .before .before .pre .0, omega (arith, inside (c .before .before .before)))
 
--- src/task.rt:43:8
-refuses-requires-2 : tie.Need-refuses-requires-2
-refuses-requires-2 c κs = search needs
-
--- src/task.rt:44:9
 returns-2 : tie.Need-returns-2
 unfolding actionVerdict
 returns-2 c = after _ _ _ (pre-fine (c .before .before .before)) (refused _ _ _ (add-set (c .before .before)) (c .before .refuses2 .ensures) (c .if2 .taken))
 
--- src/task.rt:46:22
 add-check-set-2 : tie.Need-add-check-set-2
 add-check-set-2 c = omega (arith, inside (c .before .before .before .before .before .before))
 
--- src/task.rt:46:5
 check-set-requires-3 : tie.Need-check-set-requires-3
 check-set-requires-3 c κs = let d = c .before .before .before .before .before .before in (d .before .before .pre .0, omega (arith, inside d))
 
--- src/task.rt:33:1
 returns-3 : tie.Need-returns-3
 unfolding actionVerdict
 returns-3 c = after _ _ _ (pre-fine (c .before .before .before .before)) (after _ _ _ (add-fine (c .before)) (rw (c .before .before .before .before .before .before .before .action-offset .ensures) at (c .check-set3 .ensures)))
@@ -90,11 +69,11 @@ check-action-spec =
     (tie.spec
     action-offset-requires
     check-set-requires
-    refuses-requires
+    (λ c κs. search needs)
     returns
     add-check-set
     check-set-requires-2
-    refuses-requires-2
+    (λ c κs. search needs)
     returns-2
     add-check-set-2
     check-set-requires-3

@@ -1,5 +1,6 @@
+-- `check_task` checks the start, the goal and then the actions.
 use Rattle.job.proofs.TurnLaws.{refused, fine, after}
-use Rattle.job.proofs.Accepted.{task-pair, task-inside}
+use Rattle.job.proofs.Bounds.{task-pair, task-inside}
 use Rattle.model.specs.job.Decoding.{setVerdict, taskVerdict}
 use Rattle.model.specs.job.Layout.{pairOffset}
 use Rattle.model.specs.declared.Verdict.the-variants.{Fine}
@@ -9,12 +10,6 @@ use native.Mathlib.Omega.{arith}
 use borrow.Author.Needs.{needs}
 use Rattle.job.proofs.task.check_task.Statement.{statement}
 use Rattle.job.proofs.task.check_task.Tie as tie
-use Rattle.job.proofs.task.check_task.Reads as reads
-use Rattle.job.proofs.task.check_task.Lts as lts
-use Rattle.job.proofs.access.section_offset.Reads as section-offset-reads
-use Rattle.job.proofs.checks.refuses.Reads as refuses-reads
-use Rattle.job.proofs.task.check_actions.Reads as check-actions-reads
-use Rattle.job.proofs.task.check_set.Reads as check-set-reads
 
 -- what `check_set` answered of the start and of the goal
 start-set : (c : tie.After-check-set) → (let b = c .before .before .before .args .bytes .now in c .check-set .result ≡ setVerdict b (pairOffset b 0))
@@ -31,45 +26,23 @@ goal-fine : (c : tie.Else2)
     → (let b = c .before .before .before .before .before .before .before .before .args .bytes .now in setVerdict b (pairOffset b 0 + 8) ≡ Fine)
 goal-fine c = fine _ (goal-set (c .before .before)) (c .before .refuses2 .ensures) (c .if2 .left)
 
--- src/task.rt:69:9
 section-offset-requires : tie.Need-section-offset-requires
 section-offset-requires c κs = task-pair (c .before .pre)
 
--- src/task.rt:70:9
 check-set-requires : tie.Need-check-set-requires
 check-set-requires c κs = let p = c .before .before .pre in (p, omega (arith, task-inside p))
 
--- src/task.rt:71:8
-refuses-requires : tie.Need-refuses-requires
-refuses-requires c κs = search needs
-
--- src/task.rt:72:9
 returns : tie.Need-returns
 unfolding taskVerdict
 returns c = refused _ _ _ (start-set (c .before .before)) (c .before .refuses .ensures) (c .if1 .taken)
 
--- src/task.rt:74:33
-add-check-set : tie.Need-add-check-set
-add-check-set c = search needs
-
--- src/task.rt:74:9
 check-set-requires-2 : tie.Need-check-set-requires-2
 check-set-requires-2 c κs = let p = c .before .before .before .before .before .pre in (p, omega (arith, task-inside p))
 
--- src/task.rt:75:8
-refuses-requires-2 : tie.Need-refuses-requires-2
-refuses-requires-2 c κs = search needs
-
--- src/task.rt:76:9
 returns-2 : tie.Need-returns-2
 unfolding taskVerdict
 returns-2 c = after _ _ _ (start-fine (c .before .before .before)) (refused _ _ _ (goal-set (c .before .before)) (c .before .refuses2 .ensures) (c .if2 .taken))
 
--- src/task.rt:78:5
-check-actions-requires : tie.Need-check-actions-requires
-check-actions-requires c κs = search needs
-
--- src/task.rt:65:1
 returns-3 : tie.Need-returns-3
 unfolding taskVerdict
 returns-3 c = after _ _ _ (start-fine (c .before .before .before .before)) (after _ _ _ (goal-fine (c .before)) (c .check-actions .ensures))
@@ -80,11 +53,11 @@ check-task-spec =
     (tie.spec
     section-offset-requires
     check-set-requires
-    refuses-requires
+    (λ c κs. search needs)
     returns
-    add-check-set
+    (λ c. search needs)
     check-set-requires-2
-    refuses-requires-2
+    (λ c κs. search needs)
     returns-2
-    check-actions-requires
+    (λ c κs. search needs)
     returns-3)
