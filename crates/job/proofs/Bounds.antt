@@ -9,7 +9,6 @@ use lib.ListN.{length}
 use borrow.Author.Tests.{leb-true, eqb-true}
 use Rattle.model.specs.declared.Verdict.the-variants.{Fine}
 use Rattle.model.specs.Verdict.{inTurn}
-use Rattle.model.specs.logic.Reading.{section}
 use Rattle.model.specs.job.Layout.{factCount, actionCount, constraintCount, hintCount, pairCount, pairOffset, pairLength, actionOffset}
 use Rattle.model.specs.job.Decoding.{countsInRange, headVerdict, sectionStart, rightLength, pairVerdict, pairsVerdict}
 use Rattle.model.proofs.job.VerdictLaws.{and-both, orElse-fine, unless-fine, inTurn-fine}
@@ -25,7 +24,8 @@ each-true false b c d h = absurd (true≢false (sym h))
 module _ (bytes : List ℕ) where
   -- The tests of a head that is fine.
   head-tests : headVerdict bytes ≡ Fine
-      → (leb 4 (length bytes) ≡ true) × (countsInRange (factCount bytes) (actionCount bytes) ≡ true) × (leb (constraintCount bytes) 8 ≡ true) × (leb (hintCount bytes) 8 ≡ true)
+      → (leb 4 (length bytes) ≡ true) × (countsInRange (factCount bytes) (actionCount bytes) ≡ true) × (leb (constraintCount bytes) 8 ≡ true)
+      × (leb (hintCount bytes) 8 ≡ true)
   unfolding headVerdict
   head-tests h = each-true _ _ _ _ ((unless-fine _ 1 0) .0 h)
 
@@ -40,10 +40,13 @@ module _ (bytes : List ℕ) where
       let q = (and-both (leb 1 v) (leb v 64)) .0 (p .0) in
       (leb-true 1 v (q .0), leb-true v 64 (q .1), leb-true a 64 (p .1))
 
-  -- The tests of a pair that is fine.
-  pair-tests : (n : ℕ) → inTurn n (pairVerdict bytes) ≡ Fine → (i : ℕ) → i < n
-      → (leb (8 + 4 * i) (length bytes) ≡ true) × (eqb (pairOffset bytes i) (sectionStart bytes i) ≡ true) × (rightLength bytes i (pairLength bytes i) ≡ true)
-      × (leb (pairOffset bytes i + pairLength bytes i) (length bytes) ≡ true)
+  -- The tests of a pair are true.
+  abbrev PairTrue : ℕ → Type 0
+  PairTrue i =
+      (leb (8 + 4 * i) (length bytes) ≡ true) × (eqb (pairOffset bytes i) (sectionStart bytes i) ≡ true)
+      × (rightLength bytes i (pairLength bytes i) ≡ true) × (leb (pairOffset bytes i + pairLength bytes i) (length bytes) ≡ true)
+
+  pair-tests : (n : ℕ) → inTurn n (pairVerdict bytes) ≡ Fine → (i : ℕ) → i < n → PairTrue i
   unfolding pairVerdict
   pair-tests n h i l = each-true _ _ _ _ ((unless-fine _ 2 i) .0 ((inTurn-fine n (pairVerdict bytes)) .0 h i l))
 
@@ -92,9 +95,7 @@ module _ (bytes : List ℕ) where
       each : inTurn (pairCount bytes) (pairVerdict bytes) ≡ Fine
       each = (orElse-fine (inTurn (pairCount bytes) (pairVerdict bytes)) _) .0 p .0
 
-      tests : (i : ℕ) → i < pairCount bytes
-          → (leb (8 + 4 * i) (length bytes) ≡ true) × (eqb (pairOffset bytes i) (sectionStart bytes i) ≡ true) × (rightLength bytes i (pairLength bytes i) ≡ true)
-          × (leb (pairOffset bytes i + pairLength bytes i) (length bytes) ≡ true)
+      tests : (i : ℕ) → i < pairCount bytes → PairTrue i
       tests = pair-tests (pairCount bytes) each
 
 -- Where the task's numbers lie.

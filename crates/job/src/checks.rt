@@ -16,6 +16,7 @@ pub fn unless(ok: bool, number: u8, place: usize) -> Verdict
     }
 }
 
+// Whether a check refuses.
 pub fn refuses(v: Verdict) -> bool
     ensures { λ r. ⌜ r ≡ isBad v ⌝ }
 {

@@ -8,6 +8,7 @@ ghost use Rattle.model.specs.job.Layout.{constraintCount, hintCount, pairCount,
 ghost use Rattle.model.specs.job.Decoding.{formulaVerdict, formulasVerdict};
 ghost use Rattle.job.specs.Laid.{Laid};
 
+// The formula in section i.
 fn check_formula(bytes: &[u8], i: usize) -> Verdict
     requires { ⌜ Laid (now bytes) × (i < pairCount (now bytes)) ⌝ }
     ensures { λ r. ⌜ r ≡ formulaVerdict (pairOffset (now (bytes .entry)) i) (formulaIn (now (bytes .entry)) i) ⌝ }
@@ -19,6 +20,7 @@ fn check_formula(bytes: &[u8], i: usize) -> Verdict
     formula::check(&bytes[offset..end], offset, facts, actions)
 }
 
+// The formulas in turn, constraints and then hints.
 pub fn check_formulas(bytes: &[u8]) -> Verdict
     requires { ⌜ Laid (now bytes) ⌝ }
     ensures { λ r. ⌜ r ≡ formulasVerdict (now (bytes .entry)) ⌝ }

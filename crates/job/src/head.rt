@@ -3,13 +3,10 @@ use super::access;
 use super::checks;
 use model::Verdict;
 ghost use mathlib.Core.Path.{_≡_};
-ghost use mathlib.Core.Bool.{_&&_};
-ghost use Prim.Native.Nat.{_≤_};
-ghost use lib.Dec.{leb};
-ghost use lib.ListN.{length};
-ghost use Rattle.model.specs.job.Layout.{factCount, actionCount, constraintCount, hintCount};
 ghost use Rattle.model.specs.job.Decoding.{countsInRange, headVerdict};
+ghost use Rattle.job.specs.Checks.{headFits};
 
+// Whether a number of facts and one of actions are in their ranges.
 pub fn counts_in_range(facts: u8, actions: u8) -> bool
     ensures { λ r. ⌜ r ≡ countsInRange facts actions ⌝ }
 {
@@ -22,9 +19,9 @@ pub fn counts_in_range(facts: u8, actions: u8) -> bool
     actions <= 64
 }
 
-// Whether the four counts are in their ranges.
+// Whether the head is there, with all four counts in their ranges.
 fn head_fits(bytes: &[u8]) -> bool
-    ensures { λ r. ⌜ r ≡ (leb 4 (length (now (bytes .entry))) && countsInRange (factCount (now (bytes .entry))) (actionCount (now (bytes .entry))) && leb (constraintCount (now (bytes .entry))) 8 && leb (hintCount (now (bytes .entry))) 8) ⌝ }
+    ensures { λ r. ⌜ r ≡ headFits (now (bytes .entry)) ⌝ }
 {
     if bytes.len() < 4 {
         return false;

@@ -4,8 +4,8 @@ ghost use mathlib.Core.Path.{_≡_};
 ghost use Rattle.model.specs.job.Decoding.{jobVerdict};
 
 pub mod access; // access.rt: what stands where
-mod checks; // checks.rt: one check, and whether it refuses
-mod head; // head.rt: refusal 1
+pub mod checks; // checks.rt: one check, and whether it refuses
+pub mod head; // head.rt: refusal 1
 mod pairs; // pairs.rt: refusal 2
 mod task; // task.rt: refusal 3
 mod formulas; // formulas.rt: refusals 4 and 5

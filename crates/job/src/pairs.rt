@@ -3,13 +3,12 @@ use super::access;
 use super::checks;
 use model::Verdict;
 ghost use mathlib.Core.Path.{_≡_};
-ghost use mathlib.Core.Bool.{_&&_};
 ghost use Prim.Native.Nat.{_+_, _*_, _≤_, _<_};
-ghost use lib.Dec.{leb, eqb};
 ghost use lib.ListN.{length};
 ghost use Rattle.model.specs.Verdict.{inTurn};
-ghost use Rattle.model.specs.job.Layout.{pairCount, pairOffset, pairLength};
+ghost use Rattle.model.specs.job.Layout.{pairCount};
 ghost use Rattle.model.specs.job.Decoding.{sectionStart, rightLength, pairVerdict, pairsVerdict};
+ghost use Rattle.job.specs.Checks.{pairFits};
 
 // Where section i is to begin: behind the pairs, or where the section before it ends.
 fn section_start(bytes: &[u8], i: usize) -> usize
@@ -39,7 +38,7 @@ fn right_length(bytes: &[u8], i: usize, n: usize) -> bool
 // Whether pair i and its section are whole, adjoin what is before, and have the right length.
 fn pair_fits(bytes: &[u8], i: usize) -> bool
     requires { ⌜ (4 ≤ length (now bytes)) × (i < 513) ⌝ }
-    ensures { λ r. ⌜ r ≡ (leb (8 + 4 * i) (length (now (bytes .entry))) && eqb (pairOffset (now (bytes .entry)) i) (sectionStart (now (bytes .entry)) i) && rightLength (now (bytes .entry)) i (pairLength (now (bytes .entry)) i) && leb (pairOffset (now (bytes .entry)) i + pairLength (now (bytes .entry)) i) (length (now (bytes .entry)))) ⌝ }
+    ensures { λ r. ⌜ r ≡ pairFits (now (bytes .entry)) i ⌝ }
 {
     if bytes.len() < 8 + 4 * i {
         return false;
@@ -63,6 +62,7 @@ fn check_pair(bytes: &[u8], i: usize) -> Verdict
     checks::unless(pair_fits(bytes, i), 2, i)
 }
 
+// The pairs in turn.
 fn check_each_pair(bytes: &[u8]) -> Verdict
     requires { ⌜ 4 ≤ length (now bytes) ⌝ }
     ensures { λ r. ⌜ r ≡ inTurn (pairCount (now (bytes .entry))) (pairVerdict (now (bytes .entry))) ⌝ }
@@ -79,6 +79,7 @@ fn check_each_pair(bytes: &[u8]) -> Verdict
     Verdict::Fine
 }
 
+// The pairs, and then that no byte follows the last section.
 pub fn check_pairs(bytes: &[u8]) -> Verdict
     requires { ⌜ 4 ≤ length (now bytes) ⌝ }
     ensures { λ r. ⌜ r ≡ pairsVerdict (now (bytes .entry)) ⌝ }

@@ -11,7 +11,7 @@ ghost use Rattle.model.specs.job.Layout.{factCount, actionCount, actionOffset};
 ghost use Rattle.model.specs.job.Decoding.{setVerdict, actionVerdict, taskVerdict};
 ghost use Rattle.job.specs.Laid.{Laid};
 
-// Whether x has no bit at or above n, of 64.
+// Whether x has no bit n or above.
 fn fits_in(x: u64, n: u8) -> bool
     requires { ⌜ n ≤ 64 ⌝ }
     ensures { λ r. ⌜ r ≡ ltb x (2 ^ n) ⌝ }
@@ -22,6 +22,7 @@ fn fits_in(x: u64, n: u8) -> bool
     x >> n == 0
 }
 
+// That the set at an offset has no fact that the job does not have.
 fn check_set(bytes: &[u8], offset: usize) -> Verdict
     requires { ⌜ Laid (now bytes) × (offset + 8 ≤ length (now bytes)) ⌝ }
     ensures { λ r. ⌜ r ≡ setVerdict (now (bytes .entry)) offset ⌝ }
@@ -30,6 +31,7 @@ fn check_set(bytes: &[u8], offset: usize) -> Verdict
     checks::unless(fits_in(set, access::fact_count(bytes)), 3, offset)
 }
 
+// The three sets of action i.
 fn check_action(bytes: &[u8], i: usize) -> Verdict
     requires { ⌜ Laid (now bytes) × (i < actionCount (now bytes)) ⌝ }
     ensures { λ r. ⌜ r ≡ actionVerdict (now (bytes .entry)) i ⌝ }
@@ -46,6 +48,7 @@ fn check_action(bytes: &[u8], i: usize) -> Verdict
     check_set(bytes, offset + 16)
 }
 
+// The actions in turn.
 fn check_actions(bytes: &[u8]) -> Verdict
     requires { ⌜ Laid (now bytes) ⌝ }
     ensures { λ r. ⌜ r ≡ inTurn (actionCount (now (bytes .entry))) (actionVerdict (now (bytes .entry))) ⌝ }
@@ -62,6 +65,7 @@ fn check_actions(bytes: &[u8]) -> Verdict
     Verdict::Fine
 }
 
+// The start, the goal and the actions.
 pub fn check_task(bytes: &[u8]) -> Verdict
     requires { ⌜ Laid (now bytes) ⌝ }
     ensures { λ r. ⌜ r ≡ taskVerdict (now (bytes .entry)) ⌝ }

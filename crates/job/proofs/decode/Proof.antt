@@ -27,22 +27,29 @@ check-pairs-requires c κs = head-whole _ (head-fine c)
 
 returns-2 : tie.Need-returns-2
 unfolding jobVerdict
-returns-2 c = after _ _ _ (head-fine (c .before .before .before)) (refused _ _ _ (c .before .before .check-pairs .ensures) (c .before .refuses2 .ensures) (c .if2 .taken))
+returns-2 c =
+    after _ _ _ (head-fine (c .before .before .before))
+    (refused _ _ _ (c .before .before .check-pairs .ensures) (c .before .refuses2 .ensures) (c .if2 .taken))
 
 check-task-requires : tie.Need-check-task-requires
 check-task-requires c κs = laid _ (head-fine (c .before .before .before)) (pairs-fine c)
 
 returns-3 : tie.Need-returns-3
 unfolding jobVerdict
-returns-3 c = let d = c .before .before .before in
-    after _ _ _ (head-fine (d .before .before .before)) (after _ _ _ (pairs-fine d) (refused _ _ _ (c .before .before .check-task .ensures) (c .before .refuses3 .ensures) (c .if3 .taken)))
+returns-3 c =
+    let d = c .before .before .before in
+    after _ _ _ (head-fine (d .before .before .before)) (after _ _ _ (pairs-fine d)
+    (refused _ _ _ (c .before .before .check-task .ensures) (c .before .refuses3 .ensures) (c .if3 .taken)))
 
 check-formulas-requires : tie.Need-check-formulas-requires
-check-formulas-requires c κs = let d = c .before .before .before in laid _ (head-fine (d .before .before .before)) (pairs-fine d)
+check-formulas-requires c κs =
+    let d = c .before .before .before in
+    laid _ (head-fine (d .before .before .before)) (pairs-fine d)
 
 returns-4 : tie.Need-returns-4
 unfolding jobVerdict
-returns-4 c = let d = c .before .before .before .before in
+returns-4 c =
+    let d = c .before .before .before .before in
     after _ _ _ (head-fine (d .before .before .before)) (after _ _ _ (pairs-fine d) (after _ _ _ (task-fine (c .before)) (c .check-formulas .ensures)))
 
 pub decode-spec : {M : Type 1} → statement M

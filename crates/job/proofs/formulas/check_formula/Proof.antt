@@ -16,8 +16,11 @@ part-check-end : tie.Need-part-check-end
 part-check-end c = let d = c .before .before .before .before .before in omega (arith, d .pre .0 .section (d .args .i) (d .pre .1))
 
 returns : tie.Need-returns
-returns c = let d = c .before .before in
-    c .check .ensures ∙ lent-checked _ _ (d .before .before .before .section-offset .ensures .0) (d .before .before .section-length .ensures .0) (d .before .fact-count .ensures) (d .action-count .ensures)
+returns c =
+    let d = c .before .before in
+    let e = d .before .before in
+    c .check .ensures
+    ∙ lent-checked _ _ (e .before .section-offset .ensures .0) (e .section-length .ensures .0) (d .before .fact-count .ensures) (d .action-count .ensures)
 
 pub check-formula-spec : {M : Type 1} → statement M
 check-formula-spec =

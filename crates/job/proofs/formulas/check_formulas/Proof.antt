@@ -33,15 +33,22 @@ check-formula-requires c κs = search needs
 
 returns : tie.Need-returns Inv-loop μ-loop
 unfolding formulasVerdict
-returns c = let b : List ℕ = c .before .before .before .before .before .before .before .args .bytes .now in let l = c .before .before .before .before .loop in
-    refused-at (formulaChecked b) (constraintCount b + hintCount b) (l .i) _ (l .inv .1) (c .before .before .check-formula .ensures) (c .before .refuses .ensures) (c .if1 .taken) (omega arith)
+returns c =
+    let d = c .before .before in
+    let l = d .before .before .loop in
+    let b : List ℕ = d .before .before .before .before .before .args .bytes .now in
+    refused-at (formulaChecked b) (constraintCount b + hintCount b) (l .i) _ (l .inv .1) (d .check-formula .ensures) (c .before .refuses .ensures)
+    (c .if1 .taken) (omega arith)
 
 loop-again : tie.Need-loop-again Inv-loop μ-loop
-loop-again c = (omega arith, fine-at (formulaChecked _) _ _ (c .before .before .before .before .loop .inv .1) (c .before .before .check-formula .ensures) (c .before .refuses .ensures) (c .if1 .left))
+loop-again c =
+    let d = c .before .before in
+    (omega arith, fine-at (formulaChecked _) _ _ (d .before .before .loop .inv .1) (d .check-formula .ensures) (c .before .refuses .ensures) (c .if1 .left))
 
 returns-2 : tie.Need-returns-2 Inv-loop μ-loop
 unfolding formulasVerdict
-returns-2 c = let b : List ℕ = c .before .before .before .before .args .bytes .now in
+returns-2 c =
+    let b : List ℕ = c .before .before .before .before .args .bytes .now in
     all-fine (formulaChecked b) (constraintCount b + hintCount b) (c .before .loop .i) (c .before .loop .inv .1) (omega arith)
 
 pub check-formulas-spec : {M : Type 1} → statement M

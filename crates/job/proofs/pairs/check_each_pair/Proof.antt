@@ -20,10 +20,14 @@ loop-holds : tie.Need-loop-holds Inv-loop μ-loop
 loop-holds c = (omega arith, none-yet _)
 
 returns : tie.Need-returns Inv-loop μ-loop
-returns c = refused-at _ _ _ _ (c .before .before .before .before .loop .inv .1) (c .before .before .check-pair .ensures) (c .before .refuses .ensures) (c .if1 .taken) (omega arith)
+returns c =
+    let d = c .before .before in
+    refused-at _ _ _ _ (d .before .before .loop .inv .1) (d .check-pair .ensures) (c .before .refuses .ensures) (c .if1 .taken) (omega arith)
 
 loop-again : tie.Need-loop-again Inv-loop μ-loop
-loop-again c = (omega arith, fine-at _ _ _ (c .before .before .before .before .loop .inv .1) (c .before .before .check-pair .ensures) (c .before .refuses .ensures) (c .if1 .left))
+loop-again c =
+    let d = c .before .before in
+    (omega arith, fine-at _ _ _ (d .before .before .loop .inv .1) (d .check-pair .ensures) (c .before .refuses .ensures) (c .if1 .left))
 
 returns-2 : tie.Need-returns-2 Inv-loop μ-loop
 returns-2 c = all-fine _ _ _ (c .before .loop .inv .1) (omega arith)

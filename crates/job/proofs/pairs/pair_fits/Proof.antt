@@ -6,8 +6,7 @@ use lib.Dec.{leb, eqb}
 use lib.ListN.{length}
 use Rattle.model.specs.job.Layout.{pairOffset, pairLength}
 use Rattle.model.specs.job.Decoding.{sectionStart, rightLength}
-use borrow.Author.Tests.{not-true, not-false}
-use borrow.Author.Tests.{lt-leb, le-leb, eq-eqb, ne-eqb}
+use borrow.Author.Tests.{lt-leb, le-leb, eq-eqb, ne-eqb, not-true, not-false}
 use borrow.Author.Needs.{needs}
 use Rattle.job.proofs.pairs.pair_fits.Statement.{statement}
 use Rattle.job.proofs.pairs.pair_fits.Tie as tie
@@ -31,14 +30,16 @@ returns : tie.Need-returns
 returns c = rw (lt-leb _ _ (c .if1 .taken))
 
 returns-2 : tie.Need-returns-2
-returns-2 c = let d = c .before .before .before .before in
+returns-2 c =
+    let d = c .before .before .before .before in
     rw (le-leb _ _ (d .if1 .left), ← c .before .before .before .section-offset .ensures .0, ← c .before .section-start .ensures, ne-eqb _ _ (c .if2 .taken))
 
 returns-3 : tie.Need-returns-3
 returns-3 c = rw (tested (c .before), not-true (c .before .right-length .result) (c .if3 .taken))
 
 returns-4 : tie.Need-returns-4
-returns-4 c = let d = c .before .before .before .before in
+returns-4 c =
+    let d = c .before .before .before .before in
     rw (tested (c .before), not-false (c .before .right-length .result) (c .if3 .left), ← d .before .section-offset .ensures .0, ← d .section-length .ensures .0)
 
 pub pair-fits-spec : {M : Type 1} → statement M

@@ -12,25 +12,29 @@ use borrow.Author.Needs.{needs}
 use Rattle.job.proofs.task.check_action.Statement.{statement}
 use Rattle.job.proofs.task.check_action.Tie as tie
 
--- the place behind the call of `action_offset`
-abbrev Here : Type 0
-Here = tie.After-action-offset
-
 -- the action lies inside the bytes
-inside : (c : Here) → c .action-offset .result + 26 ≤ length (c .before .before .args .bytes .now)
-inside c = let p = c .before .before .pre in omega (arith, action-inside (p .0) (c .before .before .args .i) (p .1), c .action-offset .ensures)
+inside : (c : tie.After-action-offset) → c .action-offset .result + 26 ≤ length (c .before .before .args .bytes .now)
+inside c =
+    let p = c .before .before .pre in
+    omega (arith, action-inside (p .0) (c .before .before .args .i) (p .1), c .action-offset .ensures)
 
 -- what `check_set` answered of the action's first and second set
-pre-set : (c : tie.After-check-set) → (let a = c .before .before .before .args in c .check-set .result ≡ setVerdict (a .bytes .now) (actionOffset (a .bytes .now) (a .i)))
+pre-set : (c : tie.After-check-set)
+    → (let a = c .before .before .before .args in c .check-set .result ≡ setVerdict (a .bytes .now) (actionOffset (a .bytes .now) (a .i)))
 pre-set c = rw (c .before .action-offset .ensures) at (c .check-set .ensures)
 
-pre-fine : (c : tie.Else1) → (let a = c .before .before .before .before .before .args in setVerdict (a .bytes .now) (actionOffset (a .bytes .now) (a .i)) ≡ Fine)
+pre-fine : (c : tie.Else1)
+    → (let a = c .before .before .before .before .before .args in setVerdict (a .bytes .now) (actionOffset (a .bytes .now) (a .i)) ≡ Fine)
 pre-fine c = fine _ (pre-set (c .before .before)) (c .before .refuses .ensures) (c .if1 .left)
 
-add-set : (c : tie.After-check-set2) → (let a = c .before .before .before .before .before .before .args in c .check-set2 .result ≡ setVerdict (a .bytes .now) (actionOffset (a .bytes .now) (a .i) + 8))
+add-set : (c : tie.After-check-set2)
+    → (let a = c .before .before .before .before .before .before .args in
+    c .check-set2 .result ≡ setVerdict (a .bytes .now) (actionOffset (a .bytes .now) (a .i) + 8))
 add-set c = rw (c .before .before .before .before .action-offset .ensures) at (c .check-set2 .ensures)
 
-add-fine : (c : tie.Else2) → (let a = c .before .before .before .before .before .before .before .before .args in setVerdict (a .bytes .now) (actionOffset (a .bytes .now) (a .i) + 8) ≡ Fine)
+add-fine : (c : tie.Else2)
+    → (let a = c .before .before .before .before .before .before .before .before .args in
+    setVerdict (a .bytes .now) (actionOffset (a .bytes .now) (a .i) + 8) ≡ Fine)
 add-fine c = fine _ (add-set (c .before .before)) (c .before .refuses2 .ensures) (c .if2 .left)
 
 action-offset-requires : tie.Need-action-offset-requires
@@ -51,7 +55,9 @@ check-set-requires-2 c κs = (c .before .before .before .before .before .pre .0,
 
 returns-2 : tie.Need-returns-2
 unfolding actionVerdict
-returns-2 c = after _ _ _ (pre-fine (c .before .before .before)) (refused _ _ _ (add-set (c .before .before)) (c .before .refuses2 .ensures) (c .if2 .taken))
+returns-2 c =
+    after _ _ _ (pre-fine (c .before .before .before))
+    (refused _ _ _ (add-set (c .before .before)) (c .before .refuses2 .ensures) (c .if2 .taken))
 
 add-check-set-2 : tie.Need-add-check-set-2
 add-check-set-2 c = omega (arith, inside (c .before .before .before .before .before .before))
@@ -61,7 +67,10 @@ check-set-requires-3 c κs = let d = c .before .before .before .before .before .
 
 returns-3 : tie.Need-returns-3
 unfolding actionVerdict
-returns-3 c = after _ _ _ (pre-fine (c .before .before .before .before)) (after _ _ _ (add-fine (c .before)) (rw (c .before .before .before .before .before .before .before .action-offset .ensures) at (c .check-set3 .ensures)))
+returns-3 c =
+    after _ _ _ (pre-fine (c .before .before .before .before))
+    (after _ _ _ (add-fine (c .before))
+    (rw (c .before .before .before .before .before .before .before .action-offset .ensures) at (c .check-set3 .ensures)))
 
 pub check-action-spec : {M : Type 1} → statement M
 check-action-spec =
