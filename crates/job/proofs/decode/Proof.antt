@@ -1,10 +1,10 @@
 -- `decode` makes the checks in their order; each may lean on those before it, which were fine.
-use Rattle.job.proofs.TurnLaws.{refused, fine, after}
-use Rattle.job.proofs.Bounds.{head-whole, laid}
-use Rattle.model.specs.job.Decoding.{headVerdict, pairsVerdict, taskVerdict, jobVerdict}
-use Rattle.model.specs.declared.Verdict.the-variants.{Fine}
 use mathlib.Core.Path.{_≡_}
 use borrow.Author.Needs.{needs}
+use Rattle.model.specs.declared.Verdict.the-variants.{Fine}
+use Rattle.model.specs.job.Decoding.{headVerdict, pairsVerdict, taskVerdict, jobVerdict}
+use Rattle.job.proofs.TurnLaws.{refused, fine, after}
+use Rattle.job.proofs.Bounds.{head-whole, laid}
 use Rattle.job.proofs.decode.Statement.{statement}
 use Rattle.job.proofs.decode.Tie as tie
 

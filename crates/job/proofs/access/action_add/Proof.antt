@@ -1,6 +1,6 @@
 -- `action_add` reads an action's second set.
-use Rattle.model.specs.job.Layout.{actionAt}
 use borrow.Author.Needs.{needs}
+use Rattle.model.specs.job.Layout.{actionAt}
 use Rattle.job.proofs.access.action_add.Statement.{statement}
 use Rattle.job.proofs.access.action_add.Tie as tie
 

@@ -1,6 +1,6 @@
 -- `action_cost` reads the number behind an action's sets.
-use Rattle.model.specs.job.Layout.{actionAt}
 use borrow.Author.Needs.{needs}
+use Rattle.model.specs.job.Layout.{actionAt}
 use Rattle.job.proofs.access.action_cost.Statement.{statement}
 use Rattle.job.proofs.access.action_cost.Tie as tie
 

@@ -1,7 +1,7 @@
 -- `action_count` reads byte 1.
-use Rattle.model.specs.job.Layout.{actionCount}
 use mathlib.Core.Path.{refl}
 use borrow.Author.Needs.{needs}
+use Rattle.model.specs.job.Layout.{actionCount}
 use Rattle.job.proofs.access.action_count.Statement.{statement}
 use Rattle.job.proofs.access.action_count.Tie as tie
 

@@ -1,6 +1,6 @@
 -- `action_del` reads an action's third set.
-use Rattle.model.specs.job.Layout.{actionAt}
 use borrow.Author.Needs.{needs}
+use Rattle.model.specs.job.Layout.{actionAt}
 use Rattle.job.proofs.access.action_del.Statement.{statement}
 use Rattle.job.proofs.access.action_del.Tie as tie
 

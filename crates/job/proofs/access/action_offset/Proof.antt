@@ -1,6 +1,6 @@
 -- `action_offset` counts past the start, the goal and the actions before; each sum stays inside the bytes.
-use Rattle.model.specs.job.Layout.{actionOffset}
 use borrow.Author.Needs.{needs}
+use Rattle.model.specs.job.Layout.{actionOffset}
 use Rattle.job.proofs.access.action_offset.Statement.{statement}
 use Rattle.job.proofs.access.action_offset.Tie as tie
 

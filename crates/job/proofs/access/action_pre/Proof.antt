@@ -1,6 +1,6 @@
 -- `action_pre` reads an action's first set.
-use Rattle.model.specs.job.Layout.{actionAt}
 use borrow.Author.Needs.{needs}
+use Rattle.model.specs.job.Layout.{actionAt}
 use Rattle.job.proofs.access.action_pre.Statement.{statement}
 use Rattle.job.proofs.access.action_pre.Tie as tie
 

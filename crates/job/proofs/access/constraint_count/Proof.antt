@@ -1,7 +1,7 @@
 -- `constraint_count` reads byte 2.
-use Rattle.model.specs.job.Layout.{constraintCount}
 use mathlib.Core.Path.{refl}
 use borrow.Author.Needs.{needs}
+use Rattle.model.specs.job.Layout.{constraintCount}
 use Rattle.job.proofs.access.constraint_count.Statement.{statement}
 use Rattle.job.proofs.access.constraint_count.Tie as tie
 

@@ -1,7 +1,7 @@
 -- `fact_count` reads byte 0.
-use Rattle.model.specs.job.Layout.{factCount}
 use mathlib.Core.Path.{refl}
 use borrow.Author.Needs.{needs}
+use Rattle.model.specs.job.Layout.{factCount}
 use Rattle.job.proofs.access.fact_count.Statement.{statement}
 use Rattle.job.proofs.access.fact_count.Tie as tie
 

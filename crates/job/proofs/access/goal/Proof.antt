@@ -1,6 +1,6 @@
 -- `goal` reads the task section's second set.
-use Rattle.model.specs.job.Layout.{jobOf}
 use borrow.Author.Needs.{needs}
+use Rattle.model.specs.job.Layout.{jobOf}
 use Rattle.job.proofs.access.goal.Statement.{statement}
 use Rattle.job.proofs.access.goal.Tie as tie
 

@@ -1,7 +1,7 @@
 -- `hint_count` reads byte 3.
-use Rattle.model.specs.job.Layout.{hintCount}
 use mathlib.Core.Path.{refl}
 use borrow.Author.Needs.{needs}
+use Rattle.model.specs.job.Layout.{hintCount}
 use Rattle.job.proofs.access.hint_count.Statement.{statement}
 use Rattle.job.proofs.access.hint_count.Tie as tie
 

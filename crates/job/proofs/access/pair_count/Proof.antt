@@ -1,6 +1,6 @@
 -- `pair_count` adds the task to the two counts.
-use Rattle.model.specs.job.Layout.{pairCount}
 use borrow.Author.Needs.{needs}
+use Rattle.model.specs.job.Layout.{pairCount}
 use Rattle.job.proofs.access.pair_count.Statement.{statement}
 use Rattle.job.proofs.access.pair_count.Tie as tie
 

@@ -1,6 +1,6 @@
 -- `section_length` reads the second number of a pair.
-use Rattle.model.specs.job.Layout.{pairLength}
 use borrow.Author.Needs.{needs}
+use Rattle.model.specs.job.Layout.{pairLength}
 use Rattle.job.proofs.access.section_length.Statement.{statement}
 use Rattle.job.proofs.access.section_length.Tie as tie
 

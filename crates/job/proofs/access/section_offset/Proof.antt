@@ -1,6 +1,6 @@
 -- `section_offset` reads the first number of a pair.
-use Rattle.model.specs.job.Layout.{pairOffset}
 use borrow.Author.Needs.{needs}
+use Rattle.model.specs.job.Layout.{pairOffset}
 use Rattle.job.proofs.access.section_offset.Statement.{statement}
 use Rattle.job.proofs.access.section_offset.Tie as tie
 

@@ -1,6 +1,6 @@
 -- `start` reads the task section's first set.
-use Rattle.model.specs.job.Layout.{jobOf}
 use borrow.Author.Needs.{needs}
+use Rattle.model.specs.job.Layout.{jobOf}
 use Rattle.job.proofs.access.start.Statement.{statement}
 use Rattle.job.proofs.access.start.Tie as tie
 

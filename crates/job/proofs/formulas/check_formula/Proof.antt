@@ -1,8 +1,8 @@
 -- `check_formula` lends a section on, which lies inside the bytes, and answers what its reader answers.
-use Rattle.job.proofs.Accepted.{lent-checked}
 use mathlib.Core.Path.{_∙_}
 use native.Mathlib.Omega.{arith}
 use borrow.Author.Needs.{needs}
+use Rattle.job.proofs.Accepted.{lent-checked}
 use Rattle.job.proofs.formulas.check_formula.Statement.{statement}
 use Rattle.job.proofs.formulas.check_formula.Tie as tie
 

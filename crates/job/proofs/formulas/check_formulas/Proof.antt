@@ -1,16 +1,16 @@
 -- `check_formulas` passes formulas while their checks are fine: the invariant. The first that refuses decides.
-use Rattle.model.specs.job.Layout.{constraintCount, hintCount}
-use Rattle.job.proofs.TurnLaws.{refused-at, fine-at, none-yet, all-fine}
-use Rattle.model.specs.job.Decoding.{formulaVerdict, formulasVerdict}
-use Rattle.model.specs.job.Layout.{pairCount, pairOffset, formulaIn}
-use Rattle.model.specs.Verdict.{inTurn}
-use Rattle.model.specs.declared.Verdict.the-variants.{Fine}
-use Rattle.model.specs.declared.Verdict.{Verdict}
 use mathlib.Core.List.{List}
-use Prim.Native.Nat.{ℕ, _+_, _≤_, _-_}
 use mathlib.Core.Path.{_≡_}
+use Prim.Native.Nat.{ℕ, _+_, _≤_, _-_}
 use native.Mathlib.Omega.{arith}
 use borrow.Author.Needs.{needs}
+use Rattle.model.specs.declared.Verdict.the-variants.{Fine}
+use Rattle.model.specs.declared.Verdict.{Verdict}
+use Rattle.model.specs.Verdict.{inTurn}
+use Rattle.model.specs.job.Layout.{constraintCount, hintCount}
+use Rattle.model.specs.job.Decoding.{formulaVerdict, formulasVerdict}
+use Rattle.model.specs.job.Layout.{pairCount, pairOffset, formulaIn}
+use Rattle.job.proofs.TurnLaws.{refused-at, fine-at, none-yet, all-fine}
 use Rattle.job.proofs.formulas.check_formulas.Statement.{statement}
 use Rattle.job.proofs.formulas.check_formulas.Tie as tie
 

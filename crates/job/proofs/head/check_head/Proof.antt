@@ -1,7 +1,7 @@
 -- `check_head` refuses unless the tests are true.
-use Rattle.model.specs.job.Decoding.{headVerdict}
-use Rattle.model.specs.Verdict.{unless}
 use borrow.Author.Needs.{needs}
+use Rattle.model.specs.Verdict.{unless}
+use Rattle.model.specs.job.Decoding.{headVerdict}
 use Rattle.job.proofs.head.check_head.Statement.{statement}
 use Rattle.job.proofs.head.check_head.Tie as tie
 

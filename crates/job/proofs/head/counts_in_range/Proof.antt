@@ -1,6 +1,6 @@
 -- `counts_in_range` makes the three tests of the definition, in its order.
-use Rattle.model.specs.job.Decoding.{countsInRange}
 use borrow.Author.Tests.{lt-leb, le-leb}
+use Rattle.model.specs.job.Decoding.{countsInRange}
 use Rattle.job.proofs.head.counts_in_range.Statement.{statement}
 use Rattle.job.proofs.head.counts_in_range.Tie as tie
 

@@ -3,10 +3,10 @@ use mathlib.Core.Path.{_≡_}
 use mathlib.Core.Bool.{_&&_}
 use lib.Dec.{leb}
 use lib.ListN.{length}
-use Rattle.model.specs.job.Layout.{factCount, actionCount}
-use Rattle.model.specs.job.Decoding.{countsInRange}
 use borrow.Author.Tests.{lt-leb, le-leb, not-true, not-false}
 use borrow.Author.Needs.{needs}
+use Rattle.model.specs.job.Layout.{factCount, actionCount}
+use Rattle.model.specs.job.Decoding.{countsInRange}
 use Rattle.job.proofs.head.head_fits.Statement.{statement}
 use Rattle.job.proofs.head.head_fits.Tie as tie
 

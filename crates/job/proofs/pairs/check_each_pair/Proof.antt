@@ -1,12 +1,12 @@
 -- `check_each_pair` passes pairs while their checks are fine: the invariant. The first that refuses decides.
-use Rattle.job.proofs.TurnLaws.{refused-at, fine-at, none-yet, all-fine}
-use Rattle.model.specs.job.Decoding.{pairVerdict}
-use Rattle.model.specs.Verdict.{inTurn}
-use Rattle.model.specs.declared.Verdict.the-variants.{Fine}
-use Prim.Native.Nat.{_≤_, _-_}
 use mathlib.Core.Path.{_≡_}
+use Prim.Native.Nat.{_≤_, _-_}
 use native.Mathlib.Omega.{arith}
 use borrow.Author.Needs.{needs}
+use Rattle.model.specs.declared.Verdict.the-variants.{Fine}
+use Rattle.model.specs.Verdict.{inTurn}
+use Rattle.model.specs.job.Decoding.{pairVerdict}
+use Rattle.job.proofs.TurnLaws.{refused-at, fine-at, none-yet, all-fine}
 use Rattle.job.proofs.pairs.check_each_pair.Statement.{statement}
 use Rattle.job.proofs.pairs.check_each_pair.Tie as tie
 

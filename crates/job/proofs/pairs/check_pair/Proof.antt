@@ -1,7 +1,7 @@
 -- `check_pair` refuses unless the tests are true.
-use Rattle.model.specs.job.Decoding.{pairVerdict}
-use Rattle.model.specs.Verdict.{unless}
 use borrow.Author.Needs.{needs}
+use Rattle.model.specs.Verdict.{unless}
+use Rattle.model.specs.job.Decoding.{pairVerdict}
 use Rattle.job.proofs.pairs.check_pair.Statement.{statement}
 use Rattle.job.proofs.pairs.check_pair.Tie as tie
 

@@ -1,13 +1,13 @@
 -- `check_pairs` compares the end of the last section with that of the bytes, once each pair is fine and so the last one can be read.
-use Rattle.job.proofs.TurnLaws.{refused, fine, after}
-use Rattle.job.proofs.Bounds.{some-pairs, pairs-whole}
-use Rattle.model.specs.job.Decoding.{pairVerdict, pairsVerdict}
-use Rattle.model.specs.job.Layout.{pairCount}
-use Rattle.model.specs.Verdict.{inTurn}
-use Rattle.model.specs.declared.Verdict.the-variants.{Fine}
 use mathlib.Core.Path.{_≡_}
 use native.Mathlib.Omega.{arith}
 use borrow.Author.Needs.{needs}
+use Rattle.model.specs.declared.Verdict.the-variants.{Fine}
+use Rattle.model.specs.Verdict.{inTurn}
+use Rattle.model.specs.job.Decoding.{pairVerdict, pairsVerdict}
+use Rattle.model.specs.job.Layout.{pairCount}
+use Rattle.job.proofs.TurnLaws.{refused, fine, after}
+use Rattle.job.proofs.Bounds.{some-pairs, pairs-whole}
 use Rattle.job.proofs.pairs.check_pairs.Statement.{statement}
 use Rattle.job.proofs.pairs.check_pairs.Tie as tie
 

@@ -4,10 +4,10 @@ use mathlib.Core.Bool.{_&&_}
 use Prim.Native.Nat.{_+_, _*_}
 use lib.Dec.{leb, eqb}
 use lib.ListN.{length}
-use Rattle.model.specs.job.Layout.{pairOffset, pairLength}
-use Rattle.model.specs.job.Decoding.{sectionStart, rightLength}
 use borrow.Author.Tests.{lt-leb, le-leb, eq-eqb, ne-eqb, not-true, not-false}
 use borrow.Author.Needs.{needs}
+use Rattle.model.specs.job.Layout.{pairOffset, pairLength}
+use Rattle.model.specs.job.Decoding.{sectionStart, rightLength}
 use Rattle.job.proofs.pairs.pair_fits.Statement.{statement}
 use Rattle.job.proofs.pairs.pair_fits.Tie as tie
 

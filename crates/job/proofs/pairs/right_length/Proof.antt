@@ -1,7 +1,7 @@
 -- `right_length` tests the task section's length against the number of actions, and a formula's against 1 and 128.
-use Rattle.job.proofs.PairLaws.{length-task, length-none, length-some}
 use mathlib.Core.Path.{_∙_}
 use borrow.Author.Needs.{needs}
+use Rattle.job.proofs.PairLaws.{length-task, length-none, length-some}
 use Rattle.job.proofs.pairs.right_length.Statement.{statement}
 use Rattle.job.proofs.pairs.right_length.Tie as tie
 

@@ -1,6 +1,6 @@
 -- `section_start` begins the first section behind the pairs and any other behind the one before.
-use Rattle.job.proofs.PairLaws.{start-first, start-next}
 use borrow.Author.Needs.{needs}
+use Rattle.job.proofs.PairLaws.{start-first, start-next}
 use Rattle.job.proofs.pairs.section_start.Statement.{statement}
 use Rattle.job.proofs.pairs.section_start.Tie as tie
 

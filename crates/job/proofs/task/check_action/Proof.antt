@@ -1,14 +1,14 @@
 -- `check_action` checks an action's three sets, which lie inside the bytes, one after the other.
+use mathlib.Core.Path.{_≡_}
+use Prim.Native.Nat.{_+_, _≤_}
+use native.Mathlib.Omega.{arith}
+use lib.ListN.{length}
+use borrow.Author.Needs.{needs}
 use Rattle.model.specs.declared.Verdict.the-variants.{Fine}
-use Rattle.job.proofs.TurnLaws.{refused, fine, after}
-use Rattle.job.proofs.Bounds.{task-pair, action-inside}
 use Rattle.model.specs.job.Decoding.{setVerdict, actionVerdict}
 use Rattle.model.specs.job.Layout.{actionOffset}
-use native.Mathlib.Omega.{arith}
-use mathlib.Core.Path.{_≡_}
-use lib.ListN.{length}
-use Prim.Native.Nat.{_+_, _≤_}
-use borrow.Author.Needs.{needs}
+use Rattle.job.proofs.TurnLaws.{refused, fine, after}
+use Rattle.job.proofs.Bounds.{task-pair, action-inside}
 use Rattle.job.proofs.task.check_action.Statement.{statement}
 use Rattle.job.proofs.task.check_action.Tie as tie
 

@@ -1,6 +1,6 @@
 -- `check_set` refuses unless the set is below 2 ^ V.
-use Rattle.model.specs.job.Decoding.{setVerdict}
 use borrow.Author.Needs.{needs}
+use Rattle.model.specs.job.Decoding.{setVerdict}
 use Rattle.job.proofs.task.check_set.Statement.{statement}
 use Rattle.job.proofs.task.check_set.Tie as tie
 

@@ -1,13 +1,13 @@
 -- `check_task` checks the start, the goal and then the actions.
-use Rattle.job.proofs.TurnLaws.{refused, fine, after}
-use Rattle.job.proofs.Bounds.{task-pair, task-inside}
-use Rattle.model.specs.job.Decoding.{setVerdict, taskVerdict}
-use Rattle.model.specs.job.Layout.{pairOffset}
-use Rattle.model.specs.declared.Verdict.the-variants.{Fine}
-use Prim.Native.Nat.{_+_}
 use mathlib.Core.Path.{_≡_}
+use Prim.Native.Nat.{_+_}
 use native.Mathlib.Omega.{arith}
 use borrow.Author.Needs.{needs}
+use Rattle.model.specs.declared.Verdict.the-variants.{Fine}
+use Rattle.model.specs.job.Decoding.{setVerdict, taskVerdict}
+use Rattle.model.specs.job.Layout.{pairOffset}
+use Rattle.job.proofs.TurnLaws.{refused, fine, after}
+use Rattle.job.proofs.Bounds.{task-pair, task-inside}
 use Rattle.job.proofs.task.check_task.Statement.{statement}
 use Rattle.job.proofs.task.check_task.Tie as tie
 

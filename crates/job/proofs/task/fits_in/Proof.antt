@@ -1,7 +1,7 @@
 -- `fits_in`: 64 bits hold every number, and below that nothing is left of one that fits behind n bits.
+use borrow.Author.Needs.{needs}
 use Rattle.job.proofs.SetLaws.{none-above}
 use Rattle.job.proofs.SetLaws.{all-fit}
-use borrow.Author.Needs.{needs}
 use Rattle.job.proofs.task.fits_in.Statement.{statement}
 use Rattle.job.proofs.task.fits_in.Tie as tie
 
