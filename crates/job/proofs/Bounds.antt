@@ -1,0 +1,111 @@
+-- Where the head and the pairs of a job are fine, all that a reader looks at is there.
+use mathlib.Core.Path.{_≡_, refl, sym}
+use Prim.Native.Nat.{ℕ, zero, suc, _+_, _-_, _*_, _≤_, _<_}
+use native.Mathlib.Omega.{arith}
+use mathlib.Core.Bool.{Bool, true, false, _&&_, true≢false}
+use mathlib.Core.List.{List}
+use lib.Dec.{leb, eqb}
+use lib.ListN.{length}
+use borrow.Author.Tests.{leb-true, eqb-true}
+use Rattle.model.specs.declared.Verdict.the-variants.{Fine}
+use Rattle.model.specs.Verdict.{inTurn}
+use Rattle.model.specs.job.Layout.{factCount, actionCount, constraintCount, hintCount, pairCount, pairOffset, pairLength, actionOffset}
+use Rattle.model.specs.job.Decoding.{countsInRange, headVerdict, sectionStart, rightLength, pairVerdict, pairsVerdict}
+use Rattle.model.proofs.job.VerdictLaws.{and-both, orElse-fine, unless-fine, inTurn-fine}
+use Rattle.job.specs.Laid.{Laid}
+
+-- Four tests are true together only if each is.
+each-true : (a b c d : Bool) → a && b && c && d ≡ true → (a ≡ true) × (b ≡ true) × (c ≡ true) × (d ≡ true)
+each-true true true true d h = (refl, refl, refl, h)
+each-true true true false d h = absurd (true≢false (sym h))
+each-true true false c d h = absurd (true≢false (sym h))
+each-true false b c d h = absurd (true≢false (sym h))
+
+module _ (bytes : List ℕ) where
+  -- The tests of a head that is fine.
+  head-tests : headVerdict bytes ≡ Fine
+      → (leb 4 (length bytes) ≡ true) × (countsInRange (factCount bytes) (actionCount bytes) ≡ true) × (leb (constraintCount bytes) 8 ≡ true)
+      × (leb (hintCount bytes) 8 ≡ true)
+  unfolding headVerdict
+  head-tests h = each-true _ _ _ _ ((unless-fine _ 1 0) .0 h)
+
+  -- A head that is fine has its four bytes.
+  pub head-whole : headVerdict bytes ≡ Fine → 4 ≤ length bytes
+  head-whole h = leb-true 4 (length bytes) (head-tests h .0)
+
+  counts : (v a : ℕ) → countsInRange v a ≡ true → (1 ≤ v) × (v ≤ 64) × (a ≤ 64)
+  unfolding countsInRange
+  counts v a h =
+      let p = (and-both (leb 1 v && leb v 64) (leb a 64)) .0 h in
+      let q = (and-both (leb 1 v) (leb v 64)) .0 (p .0) in
+      (leb-true 1 v (q .0), leb-true v 64 (q .1), leb-true a 64 (p .1))
+
+  -- The tests of a pair are true.
+  abbrev PairTrue : ℕ → Type 0
+  PairTrue i =
+      (leb (8 + 4 * i) (length bytes) ≡ true) × (eqb (pairOffset bytes i) (sectionStart bytes i) ≡ true)
+      × (rightLength bytes i (pairLength bytes i) ≡ true) × (leb (pairOffset bytes i + pairLength bytes i) (length bytes) ≡ true)
+
+  pair-tests : (n : ℕ) → inTurn n (pairVerdict bytes) ≡ Fine → (i : ℕ) → i < n → PairTrue i
+  unfolding pairVerdict
+  pair-tests n h i l = each-true _ _ _ _ ((unless-fine _ 2 i) .0 ((inTurn-fine n (pairVerdict bytes)) .0 h i l))
+
+  -- A pair that is fine has its four bytes.
+  pair-whole : (n : ℕ) → inTurn n (pairVerdict bytes) ≡ Fine → (i : ℕ) → i < n → 8 + 4 * i ≤ length bytes
+  pair-whole n h i l = leb-true (8 + 4 * i) (length bytes) (pair-tests n h i l .0)
+
+  -- There is a pair for the task.
+  pub some-pairs : 0 < pairCount bytes
+  unfolding pairCount
+  some-pairs = omega arith
+
+  -- If all pairs are fine, all their bytes are there.
+  pub pairs-whole : inTurn (pairCount bytes) (pairVerdict bytes) ≡ Fine → 4 + 4 * pairCount bytes ≤ length bytes
+  pairs-whole h = omega (arith, some-pairs, pair-whole (pairCount bytes) h (pairCount bytes - 1) (omega (arith, some-pairs)))
+
+  formula-length : (i n : ℕ) → 1 ≤ i → rightLength bytes i n ≡ true → (1 ≤ n) × (n ≤ 128)
+  unfolding rightLength
+  formula-length zero n l h = absurd (omega arith)
+  formula-length (suc i) n l h = let p = (and-both (leb 1 n) (leb n 128)) .0 h in (leb-true 1 n (p .0), leb-true n 128 (p .1))
+
+  task-length : (n : ℕ) → rightLength bytes 0 n ≡ true → n ≡ 16 + 26 * actionCount bytes
+  unfolding rightLength
+  task-length n h = eqb-true n (16 + 26 * actionCount bytes) h
+
+  -- If the head and the pairs are fine, all is there.
+  pub laid : headVerdict bytes ≡ Fine → pairsVerdict bytes ≡ Fine → Laid bytes
+  unfolding pairsVerdict
+  laid h p = record {
+    head = head-whole h;
+    some-facts = range .0;
+    few-facts = range .1;
+    few-actions = range .2;
+    few-constraints = leb-true _ 8 (head-tests h .2);
+    few-hints = leb-true _ 8 (head-tests h .3);
+    pair = pair-whole (pairCount bytes) each;
+    section = λ i l. leb-true _ (length bytes) (tests i l .3);
+    task = task-length _ (tests 0 some-pairs .2);
+    some-bytes = λ i m l. formula-length i _ m (tests i l .2) .0;
+    few-bytes = λ i m l. formula-length i _ m (tests i l .2) .1;
+  }
+    where
+      range : (1 ≤ factCount bytes) × (factCount bytes ≤ 64) × (actionCount bytes ≤ 64)
+      range = counts (factCount bytes) (actionCount bytes) (head-tests h .1)
+
+      each : inTurn (pairCount bytes) (pairVerdict bytes) ≡ Fine
+      each = (orElse-fine (inTurn (pairCount bytes) (pairVerdict bytes)) _) .0 p .0
+
+      tests : (i : ℕ) → i < pairCount bytes → PairTrue i
+      tests = pair-tests (pairCount bytes) each
+
+-- Where the task's numbers lie.
+module _ {bytes : List ℕ} (l : Laid bytes) where
+  pub task-pair : 8 ≤ length bytes
+  task-pair = l .pair 0 (some-pairs bytes)
+
+  pub task-inside : pairOffset bytes 0 + 16 ≤ length bytes
+  task-inside = omega (arith, l .section 0 (some-pairs bytes), l .task)
+
+  pub action-inside : (i : ℕ) → i < actionCount bytes → actionOffset bytes i + 26 ≤ length bytes
+  unfolding actionOffset
+  action-inside i h = omega (arith, l .section 0 (some-pairs bytes), l .task)

@@ -1,0 +1,12 @@
+-- `action_pre` reads an action's first set.
+use borrow.Author.Needs.{needs}
+use Rattle.model.specs.job.Layout.{actionAt}
+use Rattle.job.proofs.access.action_pre.Statement.{statement}
+use Rattle.job.proofs.access.action_pre.Tie as tie
+
+returns : tie.Need-returns
+unfolding actionAt
+returns c = rw (c .before .action-offset .ensures) at (c .get64 .ensures)
+
+pub action-pre-spec : {M : Type 1} → statement M
+action-pre-spec = tie.close (tie.spec (λ c κs. search needs) (λ c κs. search needs) returns)
