@@ -1,0 +1,2 @@
+-- What the proofs of the evaluator use.
+pub mod Bits
