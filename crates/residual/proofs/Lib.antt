@@ -1,2 +1,5 @@
 -- What the proofs of the evaluator use.
 pub mod Bits
+pub mod Nodes
+pub mod Numbers
+pub mod Walks
