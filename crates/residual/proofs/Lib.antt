@@ -3,3 +3,5 @@ pub mod Bits
 pub mod Nodes
 pub mod Numbers
 pub mod Walks
+pub mod Upwards
+pub mod Settings

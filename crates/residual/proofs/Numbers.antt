@@ -23,7 +23,7 @@ use Rattle.formula.specs.Extent.{carries, isNext}
 use Rattle.residual.specs.Walk.{starts, after, behind, Few}
 
 -- ---- the numbers rise
-starts-le : (under carried : Bool) (n : ℕ) → n ≤ starts under carried n
+pub starts-le : (under carried : Bool) (n : ℕ) → n ≤ starts under carried n
 starts-le false carried n = omega arith
 starts-le true true n = omega arith
 starts-le true false n = omega arith
