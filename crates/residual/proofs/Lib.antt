@@ -5,3 +5,4 @@ pub mod Numbers
 pub mod Walks
 pub mod Upwards
 pub mod Settings
+pub mod Answers

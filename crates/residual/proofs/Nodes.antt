@@ -1,18 +1,18 @@
 -- A formula's truth table is made of its operands' tables: its truth in a world goes by theirs.
-use mathlib.Core.Path.{_≡_, refl, sym, ap, ap₂, _∙_}
+use mathlib.Core.Path.{_≡_, refl, ap, ap₂, _∙_}
 use mathlib.Core.Bool.{Bool, true, false, not, _&&_, _||_}
-use Prim.Native.Nat.{ℕ, suc, _+_, _<_, _≤_}
+use Prim.Native.Nat.{ℕ, suc, _+_, _<_}
 use native.Mathlib.Omega.{arith}
 use mathlib.Core.Option.{none, some}
 use lib.Dec.{ltb, eqb}
-use borrow.Author.Tests.{ltb-true, ltb-false, ne-eqb}
+use borrow.Author.Tests.{ltb-false, ne-eqb}
 use Rattle.model.specs.declared.Constant.{Constant}
 use Rattle.model.specs.declared.Constant.the-variants.{False, True, Last}
 use Rattle.model.specs.declared.Unary.{Unary}
 use Rattle.model.specs.declared.Unary.the-variants.{Not, Next, Eventually, Always}
 use Rattle.model.specs.declared.Binary.{Binary}
 use Rattle.model.specs.declared.Binary.the-variants.{And, Or, Until, Release}
-use Rattle.model.specs.Bits.{bit, ofBits}
+use Rattle.model.specs.Bits.{bit}
 use Rattle.model.specs.logic.Formula.{Formula, constant, fact, action, unary, binary, choose}
 use Rattle.model.specs.logic.Parts.{count, temporal, temporal1, temporal2}
 use Rattle.model.specs.logic.Truth.{World, isMade}

@@ -2,14 +2,14 @@
 use mathlib.Core.Path.{_≡_, refl, ap, ap₂, _∙_, subst⁻¹}
 use mathlib.Core.Bool.{Bool, false, _||_}
 use mathlib.Core.List.{List}
-use Prim.Native.Nat.{ℕ, _+_, _<_}
+use Prim.Native.Nat.{ℕ, _<_}
 use Rattle.model.specs.declared.Constant.{Constant}
 use Rattle.model.specs.declared.Unary.{Unary}
 use Rattle.model.specs.declared.Binary.{Binary}
 use Rattle.model.specs.Bits.{bit}
-use Rattle.model.specs.logic.Formula.{Formula, constant, fact, action, unary, binary}
+use Rattle.model.specs.logic.Formula.{constant, fact, action, unary, binary}
 use Rattle.model.specs.logic.Reading.{Parsed, formula, wrong, then, andThen, parsed}
-use Rattle.model.specs.logic.Parts.{temporal, temporal1, temporal2}
+use Rattle.model.specs.logic.Parts.{temporal1, temporal2}
 use Rattle.model.specs.logic.Truth.{World, isMade}
 use Rattle.model.proofs.logic.ReadingLaws.{parsed-grows}
 use Rattle.bits.specs.Tables.{everywhere}

@@ -1,16 +1,18 @@
+-- The walk's table is the residual.
+use mathlib.Core.Path.{ap, _∙_}
+use Rattle.model.specs.logic.Reading.{parsed}
+use Rattle.residual.specs.declared.Value.{Value}
+use Rattle.residual.proofs.Answers.{ready-few, first-answers}
 use Rattle.residual.proofs.first.Statement.{statement}
 use Rattle.residual.proofs.first.Tie as tie
-use Rattle.residual.proofs.first.Reads as reads
-use Rattle.residual.proofs.first.Lts as lts
-use Rattle.residual.proofs.evaluate.Reads as evaluate-reads
 
--- src/lib.rt:198:9
 evaluate-requires : tie.Need-evaluate-requires
-evaluate-requires c κs = ?
+evaluate-requires c κs = let d = c .before .before in ready-few (parsed 64 64 (d .args .s .now) 0) (d .pre)
 
--- src/lib.rt:188:1
 returns : tie.Need-returns
-returns c = ?
+returns c =
+    let d = c .before .before .before in
+    ap (λ (v : Value). v .table) (c .evaluate .ensures .0) ∙ first-answers _ (parsed 64 64 (d .args .s .now) 0) (d .pre)
 
 pub first-spec : {M : Type 1} → statement M
 first-spec = tie.close (tie.spec evaluate-requires returns)
