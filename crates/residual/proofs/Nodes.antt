@@ -2,8 +2,8 @@
 use mathlib.Core.Path.{_≡_, refl, ap, ap₂, _∙_}
 use mathlib.Core.Bool.{Bool, true, false, not, _&&_, _||_}
 use Prim.Native.Nat.{ℕ, suc, _+_, _<_}
-use native.Mathlib.Omega.{arith}
 use mathlib.Core.Option.{none, some}
+use native.Mathlib.Omega.{arith}
 use lib.Dec.{ltb, eqb}
 use borrow.Author.Tests.{ltb-false, ne-eqb}
 use Rattle.model.specs.declared.Constant.{Constant}
@@ -22,7 +22,7 @@ use Rattle.formula.specs.Extent.{isNext}
 use Rattle.residual.specs.Node.{madeBy, truth, truth0, truth1, truth2, ofNothing1, ofNothing2, ahead, tableOf, aheadTable, table1, table2}
 use Rattle.residual.specs.Walk.{starts, after}
 
--- an action below 64 was made where its number is the code's
+-- an action was made if it is the one that the code has
 pub made-by : (a n : ℕ) → n < 64 → eqb a n ≡ isMade (madeBy a) n
 unfolding isMade
 made-by a n h = go (ltb a 64) refl
@@ -41,7 +41,7 @@ module _ (closing : Bool) (w : World) where
   unfolding aheadTable
   bit-ahead nothing n k h = bit-ofBits 64 (λ j. ahead closing nothing (bit j n)) k h
 
-  -- ---- no operand
+  -- ---- no operand: the parts count for nothing
   truth-constant : (c : Constant) (n : ℕ) (s : ℕ → Bool) → truth0 closing c ≡ truth closing w (constant c) n s
   unfolding truth
   truth-constant c n s = go closing c
@@ -75,6 +75,7 @@ module _ (closing : Bool) (w : World) where
   unfolding everywhere tableOf
   table-everywhere b φ n e = ofBits-cong 64 _ _ (λ k h. e (bit k))
 
+  -- and so a constant, a fact and an action
   pub table-constant : (c : Constant) (n : ℕ) → everywhere 6 (truth0 closing c) ≡ tableOf closing w (constant c) n
   table-constant c n = table-everywhere _ (constant c) n (truth-constant c n)
 
@@ -85,6 +86,8 @@ module _ (closing : Bool) (w : World) where
   table-action a n = table-everywhere _ (action a) n (truth-action a n)
 
   -- ---- one operand
+
+  -- an operator's truth goes by its operand's and by the worlds ahead
   truth-one : (o : Unary) (φ : Formula) (n : ℕ) (s : ℕ → Bool)
       → truth1 o (truth closing w φ (after (temporal1 o) n) s) (ahead closing (ofNothing1 o) (s n)) ≡ truth closing w (unary o φ) n s
   unfolding truth truth1
@@ -110,6 +113,7 @@ module _ (closing : Bool) (w : World) where
   bits-one Eventually φ n k h = ap₂ _||_ (bit-table φ (suc n) k h) (bit-ahead false n k h)
   bits-one Always φ n k h = ap₂ _&&_ (bit-table φ (suc n) k h) (bit-ahead true n k h)
 
+  -- the table of a formula with one operand
   pub table-one : (o : Unary) (φ : Formula) (n : ℕ)
       → table1 o (tableOf closing w φ (starts (isNext o) (temporal φ) (after (temporal1 o) n))) (aheadTable closing (ofNothing1 o) n)
       ≡ tableOf closing w (unary o φ) n
@@ -117,6 +121,8 @@ module _ (closing : Bool) (w : World) where
   table-one o φ n = ofBits-cong 64 _ _ (λ k h. bits-one o φ n k h ∙ truth-one o φ n (bit k))
 
   -- ---- two operands
+
+  -- the second operand's numbers start behind the first one's
   truth-two : (o : Binary) (φ ψ : Formula) (n : ℕ) (s : ℕ → Bool)
       → (let m = after (temporal2 o) n in
       truth2 o (truth closing w φ m s) (truth closing w ψ (m + count φ) s) (ahead closing (ofNothing2 o) (s n)))
@@ -136,6 +142,7 @@ module _ (closing : Bool) (w : World) where
       go false Until = refl
       go false Release = refl
 
+  -- the table of a formula with two operands
   pub table-two : (o : Binary) (φ ψ : Formula) (n : ℕ)
       → (let m = after (temporal2 o) n in
       table2 o (tableOf closing w φ m) (tableOf closing w ψ (m + count φ)) (aheadTable closing (ofNothing2 o) n))

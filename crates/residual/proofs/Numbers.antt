@@ -22,7 +22,7 @@ use Rattle.model.proofs.logic.ReadingLaws.{at-the-end}
 use Rattle.formula.specs.Extent.{carries, isNext}
 use Rattle.residual.specs.Walk.{starts, after, behind, Few}
 
--- ---- the numbers rise
+-- ---- the numbers rise: at a formula's own, inside it, and behind it
 pub starts-le : (under carried : Bool) (n : ℕ) → n ≤ starts under carried n
 starts-le false carried n = omega arith
 starts-le true true n = omega arith
@@ -32,14 +32,18 @@ after-le : (carried : Bool) (n : ℕ) → n ≤ after carried n
 after-le true n = omega arith
 after-le false n = omega arith
 
-pub behind-le : (φ : Formula) (under : Bool) (n : ℕ) → n ≤ behind φ under n
+behind-le : (φ : Formula) (under : Bool) (n : ℕ) → n ≤ behind φ under n
 unfolding behind
 behind-le (constant c) under n = starts-le under false n
 behind-le (fact i) under n = starts-le under false n
 behind-le (action a) under n = starts-le under false n
 behind-le (unary o φ) under n =
-    omega (arith, starts-le under (temporal1 o) n, after-le (temporal1 o) (starts under (temporal1 o) n),
-    behind-le φ (isNext o) (after (temporal1 o) (starts under (temporal1 o) n)))
+    omega (
+      arith,
+      starts-le under (temporal1 o) n,
+      after-le (temporal1 o) (starts under (temporal1 o) n),
+      behind-le φ (isNext o) (after (temporal1 o) (starts under (temporal1 o) n)),
+    )
 behind-le (binary o φ ψ) under n =
     let m : ℕ = after (temporal2 o) (starts under (temporal2 o) n) in
     omega (arith, starts-le under (temporal2 o) n, after-le (temporal2 o) (starts under (temporal2 o) n), behind-le φ false m, behind-le ψ false (behind φ false m))
@@ -61,6 +65,7 @@ behind-under (binary Or φ ψ) n = refl
 behind-under (binary Until φ ψ) n = refl
 behind-under (binary Release φ ψ) n = refl
 
+-- the same of the count
 next-count : (b : Bool) (n x : ℕ) → choose b (n + x) (suc n + x) ≡ n + (elim b [ true ↦ x | false ↦ 1 + x ])
 next-count true n x = refl
 next-count false n x = omega arith
@@ -100,6 +105,7 @@ module _ (under : Bool) (i : ℕ) where
       go (formula ψ n) h = omega (arith, behind-le ψ false (behind φ false (after (temporal2 o) (starts under (temporal2 o) i))))
       go (wrong q) h = absurd h
 
+-- what is asked of a number holds of those before
 few-le : (p : Parsed) (u : Bool) (n : ℕ) → Few p u n → n ≤ 6
 few-le (formula φ m) u n h = omega (arith, behind-le φ u n)
 few-le (wrong p) u n h = absurd h
@@ -128,6 +134,7 @@ module _ (v a : ℕ) (s : List ℕ) (under : Bool) (i : ℕ) where
       go true false e d h = absurd h
       go true true e d h = (ltb-true at (length s) e, ltb-true (getD s at 0) b d, refl)
 
+  -- a fact and an action have no number inside
   numbered-le : (f : ℕ → Formula) → ((n : ℕ) → behind (f n) under i ≡ starts under false i) → (b at : ℕ)
       → Few (numbered v a s f b at) under i → starts under false i ≤ 6
   numbered-le f e b at h = omega (arith, e (getD s at 0), rw (few-number f b at h .2) at h)

@@ -98,6 +98,7 @@ module _ (closing : Bool) (w : World) where
       → set x n (tableOf closing w φ n) ≡ stored t n (record { shape = φ; position = at; first = n } ∷ ps)
   part-last φ n at t ps e = stored-next false (record { shape = φ; position = at; first = n }) t n ps [] refl e
 
+  -- that holds of every formula
   filled-parts : (φ : Formula) → FilledParts φ
   unfolding filled parts stored
   filled-parts (constant c) n at t = refl

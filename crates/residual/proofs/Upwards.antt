@@ -46,6 +46,7 @@ module _ (w : World) (s s′ : ℕ → Bool) where
       ap₂ _&&_ (progress-from ψ (suc n + count φ) (λ j l. h j (omega arith)))
       (ap₂ _||_ (progress-from φ (suc n) (λ j l. h j (omega arith))) (h n (omega arith)))
 
+  -- in the closing world by none
   truth-from : (closing : Bool) (φ : Formula) (n : ℕ) → SameFrom n s s′ → truth closing w φ n s ≡ truth closing w φ n s′
   unfolding truth
   truth-from true φ n h = refl
@@ -72,18 +73,22 @@ zeros-at (suc n) (suc i) = zeros-at n i
 abbrev AllFrom : List ℕ → Type 0
 AllFrom t = (i : ℕ) → From i (getD t i 0)
 
+-- so it is with the tables that a part's table is put in
 put-every : (part : Bool) (n x : ℕ) (t : List ℕ) → From n x → AllFrom t → AllFrom (put part n x t)
 put-every true n x t p h = set-every From t n x p h
 put-every false n x t p h = h
 
 module _ (closing : Bool) (w : World) where
+  -- a formula's table goes by the unknowns from its first part on
   table-from : (φ : Formula) (n i : ℕ) → i ≤ n → From i (tableOf closing w φ n)
   table-from φ n i h k l hk hl e =
       bit-table closing w φ n k hk ∙ truth-from w (bit k) (bit l) closing φ n (λ j g. e j (omega arith)) ∙ sym (bit-table closing w φ n l hl)
 
+  -- a part is not numbered above those
   own-from : (φ : Formula) (under carried : Bool) (n : ℕ) → From n (tableOf closing w φ (starts under carried n))
   own-from φ under carried n = table-from φ (starts under carried n) n (starts-le under carried n)
 
+  -- the walk leaves such tables
   filled-from : (φ : Formula) (under : Bool) (n : ℕ) (t : List ℕ) → AllFrom t → AllFrom (filled closing w φ under n t)
   unfolding filled
   filled-from (constant c) under n t h = put-every (under || false) n _ t (own-from (constant c) under false n) h

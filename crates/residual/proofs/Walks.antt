@@ -46,9 +46,9 @@ module _ (closing : Bool) (w : World) where
     kept-answers carried part ep p v e x′ f r x h =
         (h .0 ∙ e, h .1 ∙ ap₂ (λ (b : Bool) (y : ℕ). put b i y x′) ep (ap (λ (z : Value). z .table) e) ∙ f)
 
-    -- ---- no operand
+    -- ---- no operand: v has the constant table of b
     module _ (part : Bool) (ep : part ≡ under || false) (inner : ℕ) (ei : inner ≡ starts under false i) (n : ℕ) (b : Bool)
-      (v : Value) (ev : v ≡ leaf b n inner) (r : Value) (x : List ℕ) (h : Kept part v t r x) where
+        (v : Value) (ev : v ≡ leaf b n inner) (r : Value) (x : List ℕ) (h : Kept part v t r x) where
       pub constant-answers : (c : Constant) → b ≡ truth0 closing c → Answered (formula (constant c) n) r x
       unfolding evaluated filledBy
       constant-answers c eb =
@@ -72,6 +72,7 @@ module _ (closing : Bool) (w : World) where
 
     -- ---- one operand
     module _ (o : Unary) (P : Parsed) (h : Few (then (unary o) P) under i) where
+      -- the value and the tables by the operand's, at the numbers that the walk has there
       one-value : (let own = starts under (temporal1 o) i in one closing o own (evaluated closing w P (isNext o) (after (temporal1 o) own)))
           ≡ evaluated closing w (then (unary o) P) under i
       unfolding evaluated then
@@ -97,6 +98,7 @@ module _ (closing : Bool) (w : World) where
           go (wrong p) h = absurd h
 
       module _ (u : Bool) (eu : u ≡ isNext o) (inner : ℕ) (ei : inner ≡ after (temporal1 o) (starts under (temporal1 o) i)) where
+        -- what is asked of the operand, and what its answer makes
         pub one-asks : Few P u inner
         one-asks = rw (eu, ei) (one-few under i o P h)
 
@@ -116,6 +118,7 @@ module _ (closing : Bool) (w : World) where
       abbrev within : ℕ
       within = after (temporal2 o) (starts under (temporal2 o) i)
 
+      -- the value and the tables by the operands', at the numbers that the walk has there
       two-value : (p : Parsed) → Few (both p) under i
           → (let x = evaluated closing w p false within in
           two closing o (starts under (temporal2 o) i) x (evaluated closing w (rec (x .next)) false (x .parts))) ≡ evaluated closing w (both p) under i
@@ -149,6 +152,7 @@ module _ (closing : Bool) (w : World) where
           go (formula ψ n) h = refl
           go (wrong q) h = absurd h
 
+      -- what is asked of the second operand
       two-second : (p : Parsed) → Few (both p) under i → (let x = evaluated closing w p false within in Few (rec (x .next)) false (x .parts))
       unfolding evaluated then andThen behind
       two-second (wrong p) h = absurd h
@@ -159,6 +163,7 @@ module _ (closing : Bool) (w : World) where
           go (wrong q) h = h
 
       module _ (P : Parsed) (h : Few (both P) under i) (inner : ℕ) (ei : inner ≡ within) where
+        -- what is asked of the first operand, of the second, and what their answers make
         pub two-asks : Few P false inner
         two-asks = rw ei (two-few under i o rec P h)
 

@@ -4,15 +4,15 @@ use model::Code;
 use model::Constant;
 use model::Unary;
 ghost use mathlib.Core.Path.{_≡_};
-ghost use mathlib.Core.Bool.{true, false};
+ghost use mathlib.Core.Bool.{true};
 ghost use mathlib.Core.Option.{none, some};
-ghost use Prim.Native.Nat.{_+_, _<_, _≤_};
+ghost use Prim.Native.Nat.{_<_, _≤_};
 ghost use Rattle.model.specs.logic.Reading.{parsed};
-ghost use Rattle.residual.specs.Node.{truth0, ofNothing1, ofNothing2, madeBy, aheadTable, table1, table2, worldOf};
+ghost use Rattle.residual.specs.Node.{truth0, ofNothing1, ofNothing2, aheadTable, table1, table2, worldOf};
 ghost use Rattle.residual.specs.Walk.{starts, after, put, Few, evaluated, filledBy, leaf, one, two};
 ghost use Rattle.residual.specs.Residual.{Ready, residualOf, progressedOf, closingOf};
 
-// A world: the facts, the action that was made (255 where none was), and whether it is the closing one.
+// A world: the facts, the number of the action that was made (255 where none was), and whether it is the closing one.
 struct Moment {
     state: u64,
     action: u8,
@@ -63,7 +63,11 @@ fn of_nothing_two(o: Binary) -> bool
 fn ahead(closing: bool, nothing: bool, own: usize) -> u64
     ensures { λ r. ⌜ r ≡ aheadTable closing nothing own ⌝ }
 {
-    if closing { bits::everywhere(nothing) } else { bits::unknown(own) }
+    if closing {
+        bits::everywhere(nothing)
+    } else {
+        bits::unknown(own)
+    }
 }
 
 fn table_one(o: Unary, p: u64, rest: u64) -> u64
@@ -89,14 +93,14 @@ fn table_two(o: Binary, p: u64, q: u64, rest: u64) -> u64
 }
 
 // The number that a formula's own unknown has, or the first part in it if it has none.
-fn own_number(under: bool, carried: bool, first: usize) -> usize
-    requires { ⌜ first ≤ 6 ⌝ }
-    ensures { λ r. ⌜ (r ≡ starts under carried first) × (r ≤ 7) ⌝ }
+fn own_number(under: bool, carried: bool, n: usize) -> usize
+    requires { ⌜ n ≤ 6 ⌝ }
+    ensures { λ r. ⌜ (r ≡ starts under carried n) × (r ≤ 7) ⌝ }
 {
     if under {
-        if carried { first } else { first + 1 }
+        if carried { n } else { n + 1 }
     } else {
-        first
+        n
     }
 }
 
@@ -154,33 +158,41 @@ fn keep(tables: &mut [u64; 6], part: bool, number: usize, v: Value) -> Value
     v
 }
 
-// The formula at a position, and the tables of its carried parts; `under` says that it is the operand of a next, `first` numbers the first
-// part.
-fn evaluate(s: &[u8], at: usize, m: Moment, under: bool, first: usize, tables: &mut [u64; 6]) -> Value
-    requires { ⌜ Few (parsed 64 64 (now s) at) under first ⌝ }
-    ensures { λ r. ⌜ (r ≡ evaluated (m .closing) (worldOf m) (parsed 64 64 (now (s .entry)) at) under first)
-        × (now (tables .exit) ≡ filledBy (m .closing) (worldOf m) (parsed 64 64 (now (s .entry)) at) under first (now (tables .entry))) ⌝ }
+// The formula at a position, and the tables of its carried parts; `under` says that it is the operand of a next, n numbers the first part.
+fn evaluate(s: &[u8], at: usize, m: Moment, under: bool, n: usize, tables: &mut [u64; 6]) -> Value
+    requires { ⌜ Few (parsed 64 64 (now s) at) under n ⌝ }
+    ensures { λ r. ⌜ (r ≡ evaluated (m .closing) (worldOf m) (parsed 64 64 (now (s .entry)) at) under n)
+        × (now (tables .exit) ≡ filledBy (m .closing) (worldOf m) (parsed 64 64 (now (s .entry)) at) under n (now (tables .entry))) ⌝ }
 {
     let code = formula::code_of(s[at]);
     let carried = formula::is_carried(code);
     let part = formula::is_part(code, under);
-    let own = own_number(under, carried, first);
+    let own = own_number(under, carried, n);
     let inner = inner_number(carried, own);
     let b = at + 1;
     match code {
-        Code::Leaf(c) => keep(tables, part, first, with_none(truth_of(c, m.closing), b, inner)),
-        Code::Fact => keep(tables, part, first, with_none(bits::bit_at(m.state, s[b]), b + 1, inner)),
-        Code::Action => keep(tables, part, first, with_none(m.action == s[b], b + 1, inner)),
+        Code::Leaf(c) => {
+            let v = with_none(truth_of(c, m.closing), b, inner);
+            keep(tables, part, n, v)
+        }
+        Code::Fact => {
+            let v = with_none(bits::bit_at(m.state, s[b]), b + 1, inner);
+            keep(tables, part, n, v)
+        }
+        Code::Action => {
+            let v = with_none(m.action == s[b], b + 1, inner);
+            keep(tables, part, n, v)
+        }
         Code::One(o) => {
             let p = evaluate(s, b, m, formula::is_next(o), inner, tables);
-            keep(tables, part, first, with_one(o, p, own, m.closing))
+            keep(tables, part, n, with_one(o, p, own, m.closing))
         }
         Code::Two(o) => {
             let p = evaluate(s, b, m, false, inner, tables);
             let q = evaluate(s, p.next, m, false, p.parts, tables);
-            keep(tables, part, first, with_two(o, p, q, own, m.closing))
+            keep(tables, part, n, with_two(o, p, q, own, m.closing))
         }
-        Code::Unknown => with_none(false, at, first),
+        Code::Unknown => with_none(false, at, n),
     }
 }
 
