@@ -1,0 +1,3 @@
+-- What the contracts of the table cite.
+pub mod Cells
+pub mod Slots
