@@ -1,8 +1,9 @@
 -- Laws of the list of slots: its length, its elements, and how a row's change changes it.
-use mathlib.Core.Path.{_≡_, sym, ap, _∙_}
+use mathlib.Core.Path.{_≡_, refl, sym, ap, _∙_}
+use mathlib.Core.Logic.{_≢_}
 use mathlib.Core.Bool.{Bool, true, false}
 use mathlib.Core.List.{List}
-use Prim.Native.Nat.{ℕ, _+_, _*_, _/_, _%_, _≤_, _<_}
+use Prim.Native.Nat.{ℕ, _+_, _*_, _/_, _%_, _^_, _≤_, _<_}
 use native.Mathlib.Omega.{arith}
 use native.Mathlib.Decide.{ℕ-discrete}
 use lib.ListN.{length, getD, set, length-set}
@@ -12,9 +13,9 @@ use Rattle.model.specs.Bits.{digit}
 use Rattle.model.specs.job.Job.{listOf}
 use Rattle.model.proofs.job.VerdictLaws.{getD-listOf, length-listOf}
 use Rattle.table.specs.declared.Slot.{Slot}
-use Rattle.table.specs.Cells.{row, RowSet}
-use Rattle.table.specs.Slots.{slots, slotOf, rowOf, keyWord, flagWord, noSlot, Narrow}
-use Rattle.table.proofs.CellLaws.{listOf-elements}
+use Rattle.table.specs.Cells.{word, withWord, row, RowSet}
+use Rattle.table.specs.Slots.{slots, slotOf, rowOf, keyWord, flagWord, noSlot, slotAt, takenSlot, Narrow}
+use Rattle.table.proofs.CellLaws.{listOf-elements, listOf-same, word-same, word-other, length-word, row-at, row-words}
 
 -- There are as many slots as the bytes have room for.
 pub length-slots : (l : List ℕ) → length (slots l) ≡ length l / 160
@@ -29,9 +30,9 @@ pub slot-bytes : (l : List ℕ) (i : ℕ) → i < length (slots l) → i * 160 +
 slot-bytes l i h = omega (arith, length-slots l)
 
 -- Slot i is that of row i.
-pub slot-at : (l : List ℕ) (i : ℕ) (d : Slot) → i * 160 + 160 ≤ length l → getD (slots l) i d ≡ slotOf (row l i)
+pub slot-at : (l : List ℕ) (i : ℕ) → i * 160 + 160 ≤ length l → slotAt l i ≡ slotOf (row l i)
 unfolding slots
-slot-at l i d h = getD-listOf (λ k. slotOf (row l k)) (length l / 160) i d (omega arith)
+slot-at l i h = getD-listOf (λ k. slotOf (row l k)) (length l / 160) i noSlot (omega arith)
 
 -- ---- a slot as a row, and back
 
@@ -75,6 +76,29 @@ slot-again s r k f q ek ef en eh w =
     let eg = flag-goal (s .action) (s .taken) (s .goal) (w .3) in
     rw (q, ek, ef) (rw (listOf-elements (s .node) 9 en, listOf-elements (s .hints) 8 eh, ec, es, ep, ea, et, eg))
 
+-- ---- the parts of a slot, from its last words
+
+module _ (l : List ℕ) (i w : ℕ) where
+  pub slot-cost : w ≡ word l (i * 20 + 17) → i * 160 + 160 ≤ length l → w % 4294967296 ≡ slotAt l i .cost
+  unfolding slotOf
+  slot-cost e h = rw (slot-at l i h, row-at l i 17 (omega arith), ← e)
+
+  pub slot-steps : w ≡ word l (i * 20 + 17) → i * 160 + 160 ≤ length l → w / 4294967296 % 65536 ≡ slotAt l i .steps
+  unfolding slotOf
+  slot-steps e h = rw (slot-at l i h, row-at l i 17 (omega arith), ← e)
+
+  pub slot-parent : w ≡ word l (i * 20 + 17) → i * 160 + 160 ≤ length l → w / 281474976710656 % 65536 ≡ slotAt l i .parent
+  unfolding slotOf
+  slot-parent e h = rw (slot-at l i h, row-at l i 17 (omega arith), ← e)
+
+  pub slot-action : w ≡ word l (i * 20 + 18) → i * 160 + 160 ≤ length l → w % 256 ≡ slotAt l i .action
+  unfolding slotOf
+  slot-action e h = rw (slot-at l i h, row-at l i 18 (omega arith), ← e)
+
+  pub slot-taken : w ≡ word l (i * 20 + 18) → i * 160 + 160 ≤ length l → eqb (w / 256 % 2) 1 ≡ slotAt l i .taken
+  unfolding slotOf
+  slot-taken e h = rw (slot-at l i h, row-at l i 18 (omega arith), ← e)
+
 -- ---- one slot changed
 
 -- A row set, all others as they were, sets a slot.
@@ -86,6 +110,44 @@ slots-set l t a i s q e n h =
     go : (m : ℕ) → m * 160 + 160 ≤ length t → Dec (m ≡ i) → getD (slots t) m noSlot ≡ getD (set (slots l) i s) m noSlot
     go m g (yes d) =
         rw d
-        (slot-at t i noSlot (omega arith) ∙ ap slotOf (q .0) ∙ e ∙ sym (getD-set-same (slots l) i s noSlot (slot-inside l i h)))
+        (slot-at t i (omega arith) ∙ ap slotOf (q .0) ∙ e ∙ sym (getD-set-same (slots l) i s noSlot (slot-inside l i h)))
     go m g (no d) =
-        slot-at t m noSlot g ∙ ap slotOf (q .1 m d) ∙ sym (slot-at l m noSlot (omega arith)) ∙ sym (getD-set-other (slots l) i m s noSlot d)
+        slot-at t m g ∙ ap slotOf (q .1 m d) ∙ sym (slot-at l m (omega arith)) ∙ sym (getD-set-other (slots l) i m s noSlot d)
+
+-- the word 18 of a slot that is taken now
+abbrev markWord : ℕ → ℕ
+markWord w = w % 256 + 256 + w / 512 % 2 * 512
+
+mark-taken : (w : ℕ) → eqb (markWord w / 256 % 2) 1 ≡ true
+mark-taken w = let e : markWord w / 256 ≡ 1 + w / 512 % 2 * 2 = omega arith in let d : markWord w / 256 % 2 ≡ 1 = rw e (omega arith) in rw d
+
+mark-goal : (w : ℕ) → markWord w / 512 % 2 ≡ w / 512 % 2
+mark-goal w = let e : markWord w / 512 ≡ w / 512 % 2 = omega arith in rw e (omega arith)
+
+-- Word 18 of a row changed.
+slot-marked : (l t : List ℕ) → ((j : ℕ) → j < 18 → getD t j 0 ≡ getD l j 0) → getD t 18 0 ≡ markWord (getD l 18 0) → slotOf t ≡ takenSlot (slotOf l)
+unfolding slotOf takenSlot
+slot-marked l t h e =
+    let a : markWord (getD l 18 0) % 256 ≡ getD l 18 0 % 256 = omega arith in
+    let n = listOf-same (λ j. getD t j 0) (λ j. getD l j 0) 9 (λ j g. h j (omega arith)) in
+    let k = listOf-same (λ j. getD t (9 + j) 0) (λ j. getD l (9 + j) 0) 8 (λ j g. h (9 + j) (omega arith)) in
+    rw (n, k, h 17 (omega arith), e, a, mark-taken (getD l 18 0), mark-goal (getD l 18 0))
+
+-- A slot is marked by its word 18.
+pub slots-marked : (l t : List ℕ) (i v w : ℕ) → w ≡ word l (i * 20 + 18) → t ≡ withWord l (i * 20 + 18) v → v ≡ markWord w → v < 2 ^ 64 → i * 160 + 160 ≤ length l
+    → slots t ≡ set (slots l) i (takenSlot (slotAt l i))
+slots-marked l t i v w ew et ev b h =
+    slots-set l t (row t i) i (takenSlot (slotAt l i)) (refl, other) (slot-marked (row l i) (row t i) before here ∙ ap takenSlot (sym (slot-at l i h))) (ap length et ∙ length-word l (i * 20 + 18) v) h
+  where
+    other : (m : ℕ) → m ≢ i → row t m ≡ row l m
+    other m d = row-words l t m (λ j g. ap (λ (x : List ℕ). word x (m * 20 + j)) et ∙ word-other l (i * 20 + 18) (m * 20 + j) v (omega arith))
+
+    before : (j : ℕ) → j < 18 → getD (row t i) j 0 ≡ getD (row l i) j 0
+    before j g =
+        row-at t i j (omega arith) ∙ ap (λ (x : List ℕ). word x (i * 20 + j)) et ∙ word-other l (i * 20 + 18) (i * 20 + j) v (omega arith)
+        ∙ sym (row-at l i j (omega arith))
+
+    here : getD (row t i) 18 0 ≡ markWord (getD (row l i) 18 0)
+    here =
+        row-at t i 18 (omega arith) ∙ ap (λ (x : List ℕ). word x (i * 20 + 18)) et ∙ word-same l (i * 20 + 18) v b (omega arith) ∙ ev
+        ∙ ap markWord (ew ∙ sym (row-at l i 18 (omega arith)))

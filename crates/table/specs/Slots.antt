@@ -1,5 +1,5 @@
 -- The slots of a table: what the contracts say of its bytes.
-use mathlib.Core.Bool.{Bool, false}
+use mathlib.Core.Bool.{Bool, true, false}
 use mathlib.Core.List.{List, [], _∷_, _++_}
 use Prim.Native.Nat.{ℕ, _+_, _*_, _/_, _%_, _<_}
 use lib.ListN.{length, getD, replicate}
@@ -45,3 +45,20 @@ slots l = listOf (λ i. slotOf (row l i)) (length l / 160)
 -- what stands for a slot where there is none
 unfoldable pub noSlot : Slot
 noSlot = record { node = replicate 9 0; hints = replicate 8 0; cost = 0; steps = 0; parent = 0; action = 0; taken = false; goal = false }
+
+-- slot i
+abbrev pub slotAt : List ℕ → ℕ → Slot
+slotAt l i = getD (slots l) i noSlot
+
+-- a slot that is taken now
+unfoldable pub takenSlot : Slot → Slot
+takenSlot s = record {
+  node = s .node;
+  hints = s .hints;
+  cost = s .cost;
+  steps = s .steps;
+  parent = s .parent;
+  action = s .action;
+  taken = true;
+  goal = s .goal
+}

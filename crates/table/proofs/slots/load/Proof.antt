@@ -7,7 +7,7 @@ use Rattle.table.proofs.slots.load.Statement.{statement}
 use Rattle.table.proofs.slots.load.Tie as tie
 
 returns : tie.Need-returns
-returns c = c .unpack .ensures ∙ ap slotOf (c .before .get-row .ensures) ∙ sym (slot-at _ _ _ (c .before .before .before .pre))
+returns c = c .unpack .ensures ∙ ap slotOf (c .before .get-row .ensures) ∙ sym (slot-at _ _ (c .before .before .before .pre))
 
 pub load-spec : {M : Type 1} → statement M
 load-spec = tie.close (tie.spec (λ c κs. search needs) (λ c κs. search needs) returns)
