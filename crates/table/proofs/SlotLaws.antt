@@ -99,6 +99,25 @@ module _ (l : List ℕ) (i w : ℕ) where
   unfolding slotOf
   slot-taken e h = rw (slot-at l i h, row-at l i 18 (omega arith), ← e)
 
+-- ---- the node of a slot, from its first words
+
+pub length-node : (l : List ℕ) (i : ℕ) → i * 160 + 160 ≤ length l → length (slotAt l i .node) ≡ 9
+unfolding slotOf
+length-node l i h = rw (slot-at l i h) (length-listOf (λ j. getD (row l i) j 0) 9)
+
+pub length-hints : (l : List ℕ) (i : ℕ) → i * 160 + 160 ≤ length l → length (slotAt l i .hints) ≡ 8
+unfolding slotOf
+length-hints l i h = rw (slot-at l i h) (length-listOf (λ j. getD (row l i) (9 + j) 0) 8)
+
+pub node-word : (l : List ℕ) (i j : ℕ) → j < 9 → i * 160 + 160 ≤ length l → getD (slotAt l i .node) j 0 ≡ word l (i * 20 + j)
+unfolding slotOf
+node-word l i j g h = rw (slot-at l i h) (getD-listOf (λ k. getD (row l i) k 0) 9 j 0 g ∙ row-at l i j (omega arith))
+
+-- A slot's numbers are within their widths.
+pub slot-narrow : (l : List ℕ) (i : ℕ) → i * 160 + 160 ≤ length l → Narrow (slotAt l i)
+unfolding slotOf
+slot-narrow l i h = rw (slot-at l i h) (omega arith)
+
 -- ---- one slot changed
 
 -- A row set, all others as they were, sets a slot.

@@ -4,6 +4,9 @@ ghost use Prim.Native.Nat.{_+_, _*_, _^_, _≤_, _<_};
 ghost use lib.ListN.{length};
 ghost use Rattle.table.specs.Cells.{word, withWord, row, RowSet};
 
+// The words of a row.
+pub const ROW: usize = 20;
+
 // The word k.
 pub fn get(t: &[u8], k: usize) -> u64
     requires { ⌜ k * 8 + 8 ≤ length (now t) ⌝ }
@@ -21,27 +24,27 @@ pub fn put(t: &mut [u8], k: usize, v: u64)
 }
 
 // The twenty words of row i.
-pub fn get_row(t: &[u8], i: usize) -> [u64; 20]
+pub fn get_row(t: &[u8], i: usize) -> [u64; ROW]
     requires { ⌜ i * 160 + 160 ≤ length (now t) ⌝ }
     ensures { λ r. ⌜ r ≡ row (now (t .entry)) i ⌝ }
 {
-    let mut a = [0u64; 20];
+    let mut a = [0u64; ROW];
     let mut j = 0;
-    while j < 20 {
-        a[j] = get(t, i * 20 + j);
+    while j < ROW {
+        a[j] = get(t, i * ROW + j);
         j += 1;
     }
     a
 }
 
 // Writes the twenty words of row i.
-pub fn put_row(t: &mut [u8], i: usize, a: [u64; 20])
+pub fn put_row(t: &mut [u8], i: usize, a: [u64; ROW])
     requires { ⌜ i * 160 + 160 ≤ length (now t) ⌝ }
     ensures { λ _. ⌜ RowSet (now (t .entry)) (now (t .exit)) i a ⌝ }
 {
     let mut j = 0;
-    while j < 20 {
-        put(t, i * 20 + j, a[j]);
+    while j < ROW {
+        put(t, i * ROW + j, a[j]);
         j += 1;
     }
 }

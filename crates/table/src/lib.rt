@@ -2,6 +2,7 @@
 mod cells; // cells.rt: words of 64 bits, and rows of twenty
 mod rows; // rows.rt: a slot as a row
 pub mod slots; // slots.rt: whole slots and their parts, read and written
+pub mod lookup; // lookup.rt: the slot of a node, and the open slot of the least key
 
 // What a slot holds: a node, the state and then the residual of each constraint; the residuals of the hints; the key of the least path so
 // far; the slot and the action that it came from; whether it was taken, and whether it is a goal.

@@ -1,24 +1,31 @@
 // A slot as a row of twenty words: 0 to 8 the node, 9 to 16 the hints, 17 cost, steps and parent, 18 action, taken and goal, 19 spare.
 use super::Slot;
+use super::cells::ROW;
 ghost use mathlib.Core.Path.{_≡_};
 ghost use Prim.Native.Nat.{_<_};
 ghost use lib.ListN.{length};
 ghost use Rattle.model.specs.Bits.{digit};
 ghost use Rattle.table.specs.Slots.{slotOf, rowOf, keyWord, flagWord, Narrow};
 
+// Where the parts of the words 17 and 18 begin, as weights.
+pub const STEPS: u64 = 4294967296;
+pub const PARENT: u64 = 281474976710656;
+pub const TAKEN: u64 = 256;
+pub const GOAL: u64 = 512;
+
 // The slot of a row.
-pub fn unpack(a: [u64; 20]) -> Slot
+pub fn unpack(a: [u64; ROW]) -> Slot
     ensures { λ r. ⌜ r ≡ slotOf a ⌝ }
 {
     Slot {
         node: [a[0], a[1], a[2], a[3], a[4], a[5], a[6], a[7], a[8]],
         hints: [a[9], a[10], a[11], a[12], a[13], a[14], a[15], a[16]],
-        cost: a[17] % 4294967296,
-        steps: a[17] / 4294967296 % 65536,
-        parent: a[17] / 281474976710656 % 65536,
-        action: a[18] % 256,
-        taken: a[18] / 256 % 2 == 1,
-        goal: a[18] / 512 % 2 == 1,
+        cost: a[17] % STEPS,
+        steps: a[17] / STEPS % 65536,
+        parent: a[17] / PARENT % 65536,
+        action: a[18] % TAKEN,
+        taken: a[18] / TAKEN % 2 == 1,
+        goal: a[18] / GOAL % 2 == 1,
     }
 }
 
@@ -37,7 +44,7 @@ fn key_word(cost: u64, steps: u64, parent: u64) -> u64
     requires { ⌜ (cost < 4294967296) × (steps < 65536) × (parent < 65536) ⌝ }
     ensures { λ r. ⌜ r ≡ keyWord cost steps parent ⌝ }
 {
-    cost + steps * 4294967296 + parent * 281474976710656
+    cost + steps * STEPS + parent * PARENT
 }
 
 // Word 18.
@@ -45,11 +52,11 @@ fn flag_word(action: u64, taken: bool, goal: bool) -> u64
     requires { ⌜ action < 256 ⌝ }
     ensures { λ r. ⌜ r ≡ flagWord action taken goal ⌝ }
 {
-    action + bit(taken) * 256 + bit(goal) * 512
+    action + bit(taken) * TAKEN + bit(goal) * GOAL
 }
 
 // A row of its parts, which have the lengths that their types say.
-fn line(node: [u64; 9], hints: [u64; 8], key: u64, flags: u64) -> [u64; 20]
+fn line(node: [u64; 9], hints: [u64; 8], key: u64, flags: u64) -> [u64; ROW]
     ensures { λ r. ⌜ (r ≡ rowOf node hints key flags) × (length node ≡ 9) × (length hints ≡ 8) ⌝ }
 {
     [
@@ -59,7 +66,7 @@ fn line(node: [u64; 9], hints: [u64; 8], key: u64, flags: u64) -> [u64; 20]
 }
 
 // A row of a slot.
-pub fn pack(s: Slot) -> [u64; 20]
+pub fn pack(s: Slot) -> [u64; ROW]
     requires { ⌜ Narrow s ⌝ }
     ensures { λ r. ⌜ slotOf r ≡ s ⌝ }
 {

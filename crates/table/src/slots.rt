@@ -1,7 +1,9 @@
 // Whole slots and their parts, read and written.
 use super::Slot;
 use super::cells;
+use super::cells::ROW;
 use super::rows;
+use super::rows::{GOAL, PARENT, STEPS, TAKEN};
 ghost use mathlib.Core.Path.{_≡_};
 ghost use Prim.Native.Nat.{_+_, _*_, _≤_, _<_};
 ghost use lib.ListN.{length, set, replicate};
@@ -13,7 +15,7 @@ const SLOT: usize = 160;
 
 // How many slots a table has: its whole ones, at most 65,536.
 pub fn capacity(t: &[u8]) -> usize
-    ensures { λ r. ⌜ r ≡ slotsIn (now (t .entry)) ⌝ }
+    ensures { λ r. ⌜ (r ≡ slotsIn (now (t .entry))) × (r * 160 ≤ length (now (t .entry))) × (r ≤ 65536) ⌝ }
 {
     let n = t.len() / SLOT;
     if n <= 65536 {
@@ -55,8 +57,8 @@ pub fn mark(t: &mut [u8], i: usize)
     requires { ⌜ i * 160 + 160 ≤ length (now t) ⌝ }
     ensures { λ _. ⌜ slots (now (t .exit)) ≡ set (slots (now (t .entry))) i (takenSlot (slotAt (now (t .entry)) i)) ⌝ }
 {
-    let w = cells::get(t, i * 20 + 18);
-    cells::put(t, i * 20 + 18, w % 256 + 256 + w / 512 % 2 * 512);
+    let w = cells::get(t, i * ROW + 18);
+    cells::put(t, i * ROW + 18, w % TAKEN + TAKEN + w / GOAL % 2 * GOAL);
 }
 
 // The cost of the slot i.
@@ -64,7 +66,7 @@ pub fn cost(t: &[u8], i: usize) -> u64
     requires { ⌜ i * 160 + 160 ≤ length (now t) ⌝ }
     ensures { λ r. ⌜ (r ≡ slotAt (now (t .entry)) i .cost) × (r < 4294967296) ⌝ }
 {
-    cells::get(t, i * 20 + 17) % 4294967296
+    cells::get(t, i * ROW + 17) % STEPS
 }
 
 // The steps of the slot i.
@@ -72,7 +74,7 @@ pub fn steps(t: &[u8], i: usize) -> u64
     requires { ⌜ i * 160 + 160 ≤ length (now t) ⌝ }
     ensures { λ r. ⌜ (r ≡ slotAt (now (t .entry)) i .steps) × (r < 65536) ⌝ }
 {
-    cells::get(t, i * 20 + 17) / 4294967296 % 65536
+    cells::get(t, i * ROW + 17) / STEPS % 65536
 }
 
 // The parent of the slot i.
@@ -80,7 +82,7 @@ pub fn parent(t: &[u8], i: usize) -> u64
     requires { ⌜ i * 160 + 160 ≤ length (now t) ⌝ }
     ensures { λ r. ⌜ (r ≡ slotAt (now (t .entry)) i .parent) × (r < 65536) ⌝ }
 {
-    cells::get(t, i * 20 + 17) / 281474976710656 % 65536
+    cells::get(t, i * ROW + 17) / PARENT % 65536
 }
 
 // The action of the slot i.
@@ -88,7 +90,7 @@ pub fn action(t: &[u8], i: usize) -> u64
     requires { ⌜ i * 160 + 160 ≤ length (now t) ⌝ }
     ensures { λ r. ⌜ (r ≡ slotAt (now (t .entry)) i .action) × (r < 256) ⌝ }
 {
-    cells::get(t, i * 20 + 18) % 256
+    cells::get(t, i * ROW + 18) % TAKEN
 }
 
 // Whether the slot i was taken.
@@ -96,5 +98,5 @@ pub fn is_taken(t: &[u8], i: usize) -> bool
     requires { ⌜ i * 160 + 160 ≤ length (now t) ⌝ }
     ensures { λ r. ⌜ r ≡ slotAt (now (t .entry)) i .taken ⌝ }
 {
-    cells::get(t, i * 20 + 18) / 256 % 2 == 1
+    cells::get(t, i * ROW + 18) / TAKEN % 2 == 1
 }
