@@ -89,7 +89,7 @@ word-other l k m v d = go (decLt m k)
 pub below-more : (P : ℕ → Type 0) (n : ℕ) → ((k : ℕ) → k < n → P k) → P n → (k : ℕ) → k < n + 1 → P k
 below-more P n h p k l = ⊎-elim (λ e. rw e p) (λ m. h k m) (eq-or-lt-of-le (le-of-suc-le-suc (rw add-one at l)))
 
-pub length-words : (l a : List ℕ) (k n : ℕ) → length (withWords l k a n) ≡ length l
+length-words : (l a : List ℕ) (k n : ℕ) → length (withWords l k a n) ≡ length l
 unfolding withWords
 length-words l a k zero = refl
 length-words l a k (suc n) = length-word (withWords l k a n) (k + n) (getD a n 0) ∙ length-words l a k n

@@ -23,7 +23,7 @@ use Rattle.table.proofs.SlotLaws.{length-slots, length-node, node-word}
 
 -- ---- two lists of numbers, compared from the front
 
--- Where their elements at j agree, j more are compared.
+-- Where their elements at j agree, what decides is behind them; where these differ, the lists do; lists that end there are the same.
 same-on : (a b : List ℕ) (j : ℕ) → getD a j 0 ≡ getD b j 0 → j < length a → j < length b → sameNumbers (drop j a) (drop j b) ≡ sameNumbers (drop (j + 1) a) (drop (j + 1) b)
 unfolding sameNumbers
 same-on a b j e ha hb = rw (add-one j, drop-cons a j 0 ha, drop-cons b j 0 hb, eq-eqb (getD a j 0) (getD b j 0) e, sameNumbers)
@@ -55,14 +55,13 @@ module _ (l a : List ℕ) (i : ℕ) (h : i * 160 + 160 ≤ length l) (e : length
   pub node-end : (j : ℕ) → Same j → j ≡ 9 → true ≡ sameNumbers a (slotAt l i .node)
   node-end j s d = sym (s ∙ same-end a (slotAt l i .node) j (omega arith) (omega (arith, length-node l i h)))
 
--- ---- the first n slots
+-- ---- the first n slots: how many, and which
 
-module _ (l : List ℕ) (n : ℕ) (h : n * 160 ≤ length l) where
-  pub length-first : length (take n (slots l)) ≡ n
-  length-first = length-take-le n (slots l) (omega (arith, length-slots l))
+pub length-first : (l : List ℕ) (n : ℕ) → n * 160 ≤ length l → length (take n (slots l)) ≡ n
+length-first l n h = length-take-le n (slots l) (omega (arith, length-slots l))
 
-  pub first-at : (i : ℕ) → i < n → getD (take n (slots l)) i noSlot ≡ slotAt l i
-  first-at i g = getD-take n (slots l) i noSlot g
+pub first-at : (l : List ℕ) (n i : ℕ) → i < n → getD (take n (slots l)) i noSlot ≡ slotAt l i
+first-at l n i g = getD-take n (slots l) i noSlot g
 
 -- ---- the slot of a node; the first i slots are others
 

@@ -1,7 +1,6 @@
 -- Laws of the list of slots: its length, its elements, and how a row's change changes it.
 use mathlib.Core.Path.{_≡_, refl, sym, ap, _∙_}
 use mathlib.Core.Logic.{_≢_}
-use mathlib.Core.Bool.{Bool, true, false}
 use mathlib.Core.List.{List}
 use Prim.Native.Nat.{ℕ, _+_, _*_, _/_, _%_, _^_, _≤_, _<_}
 use native.Mathlib.Omega.{arith}
@@ -9,13 +8,12 @@ use native.Mathlib.Decide.{ℕ-discrete}
 use lib.ListN.{length, getD, set, length-set}
 use lib.Seq.{ext-getD, getD-set-same, getD-set-other}
 use lib.Dec.{eqb}
-use Rattle.model.specs.Bits.{digit}
-use Rattle.model.specs.job.Job.{listOf}
 use Rattle.model.proofs.job.VerdictLaws.{getD-listOf, length-listOf}
 use Rattle.table.specs.declared.Slot.{Slot}
 use Rattle.table.specs.Cells.{word, withWord, row, RowSet}
-use Rattle.table.specs.Slots.{slots, slotOf, rowOf, keyWord, flagWord, noSlot, slotAt, takenSlot, Narrow}
-use Rattle.table.proofs.CellLaws.{listOf-elements, listOf-same, word-same, word-other, length-word, row-at, row-words}
+use Rattle.table.specs.Slots.{slots, slotOf, noSlot, slotAt, takenSlot, Narrow}
+use Rattle.table.proofs.RowLaws.{markWord, slot-marked}
+use Rattle.table.proofs.CellLaws.{word-same, word-other, length-word, row-at, row-words}
 
 -- There are as many slots as the bytes have room for.
 pub length-slots : (l : List ℕ) → length (slots l) ≡ length l / 160
@@ -33,48 +31,6 @@ slot-bytes l i h = omega (arith, length-slots l)
 pub slot-at : (l : List ℕ) (i : ℕ) → i * 160 + 160 ≤ length l → slotAt l i ≡ slotOf (row l i)
 unfolding slots
 slot-at l i h = getD-listOf (λ k. slotOf (row l k)) (length l / 160) i noSlot (omega arith)
-
--- ---- a slot as a row, and back
-
-flag-taken : (action : ℕ) (taken goal : Bool) → action < 256 → eqb (flagWord action taken goal / 256 % 2) 1 ≡ taken
-unfolding digit
-flag-taken a true true h = let e : (a + 256 + 512) / 256 % 2 ≡ 1 = omega arith in rw e
-flag-taken a true false h = let e : (a + 256 + 0) / 256 % 2 ≡ 1 = omega arith in rw e
-flag-taken a false true h = let e : (a + 0 + 512) / 256 % 2 ≡ 0 = omega arith in rw e
-flag-taken a false false h = let e : (a + 0 + 0) / 256 % 2 ≡ 0 = omega arith in rw e
-
-flag-goal : (action : ℕ) (taken goal : Bool) → action < 256 → eqb (flagWord action taken goal / 512 % 2) 1 ≡ goal
-unfolding digit
-flag-goal a true true h = let e : (a + 256 + 512) / 512 % 2 ≡ 1 = omega arith in rw e
-flag-goal a true false h = let e : (a + 256 + 0) / 512 % 2 ≡ 0 = omega arith in rw e
-flag-goal a false true h = let e : (a + 0 + 512) / 512 % 2 ≡ 1 = omega arith in rw e
-flag-goal a false false h = let e : (a + 0 + 0) / 512 % 2 ≡ 0 = omega arith in rw e
-
-flag-action : (action : ℕ) (taken goal : Bool) → action < 256 → flagWord action taken goal % 256 ≡ action
-unfolding digit
-flag-action a true true h = omega arith
-flag-action a true false h = omega arith
-flag-action a false true h = omega arith
-flag-action a false false h = omega arith
-
-key-steps : (c s p : ℕ) → c < 4294967296 → s < 65536 → keyWord c s p / 4294967296 % 65536 ≡ s
-key-steps c s p h g = let e : keyWord c s p / 4294967296 ≡ s + p * 65536 = omega arith in rw e (omega arith)
-
-key-parent : (c s p : ℕ) → c < 4294967296 → s < 65536 → p < 65536 → keyWord c s p / 281474976710656 % 65536 ≡ p
-key-parent c s p h g f = let e : keyWord c s p / 281474976710656 ≡ p = omega arith in rw e (omega arith)
-
--- A slot's row gives the slot again.
-pub slot-again : (s : Slot) (r : List ℕ) (k f : ℕ) → r ≡ rowOf (s .node) (s .hints) k f → k ≡ keyWord (s .cost) (s .steps) (s .parent)
-    → f ≡ flagWord (s .action) (s .taken) (s .goal) → length (s .node) ≡ 9 → length (s .hints) ≡ 8 → Narrow s → slotOf r ≡ s
-unfolding slotOf rowOf listOf
-slot-again s r k f q ek ef en eh w =
-    let ec : keyWord (s .cost) (s .steps) (s .parent) % 4294967296 ≡ s .cost = omega arith in
-    let es = key-steps (s .cost) (s .steps) (s .parent) (w .0) (w .1) in
-    let ep = key-parent (s .cost) (s .steps) (s .parent) (w .0) (w .1) (w .2) in
-    let ea = flag-action (s .action) (s .taken) (s .goal) (w .3) in
-    let et = flag-taken (s .action) (s .taken) (s .goal) (w .3) in
-    let eg = flag-goal (s .action) (s .taken) (s .goal) (w .3) in
-    rw (q, ek, ef) (rw (listOf-elements (s .node) 9 en, listOf-elements (s .hints) 8 eh, ec, es, ep, ea, et, eg))
 
 -- ---- the parts of a slot, from its last words
 
@@ -113,10 +69,14 @@ pub node-word : (l : List ℕ) (i j : ℕ) → j < 9 → i * 160 + 160 ≤ lengt
 unfolding slotOf
 node-word l i j g h = rw (slot-at l i h) (getD-listOf (λ k. getD (row l i) k 0) 9 j 0 g ∙ row-at l i j (omega arith))
 
+-- What is read from a row is slot i, within its widths.
+pub slot-read : (l a : List ℕ) (i : ℕ) (s : Slot) → s ≡ slotOf a → a ≡ row l i → i * 160 + 160 ≤ length l → (s ≡ slotAt l i) × Narrow s
+unfolding slotOf
+slot-read l a i s e q h = (e ∙ ap slotOf q ∙ sym (slot-at l i h), rw e (omega arith))
+
 -- A slot's numbers are within their widths.
 pub slot-narrow : (l : List ℕ) (i : ℕ) → i * 160 + 160 ≤ length l → Narrow (slotAt l i)
-unfolding slotOf
-slot-narrow l i h = rw (slot-at l i h) (omega arith)
+slot-narrow l i h = slot-read l (row l i) i (slotAt l i) (slot-at l i h) refl h .1
 
 -- ---- one slot changed
 
@@ -132,25 +92,6 @@ slots-set l t a i s q e n h =
         (slot-at t i (omega arith) ∙ ap slotOf (q .0) ∙ e ∙ sym (getD-set-same (slots l) i s noSlot (slot-inside l i h)))
     go m g (no d) =
         slot-at t m g ∙ ap slotOf (q .1 m d) ∙ sym (slot-at l m (omega arith)) ∙ sym (getD-set-other (slots l) i m s noSlot d)
-
--- the word 18 of a slot that is taken now
-abbrev markWord : ℕ → ℕ
-markWord w = w % 256 + 256 + w / 512 % 2 * 512
-
-mark-taken : (w : ℕ) → eqb (markWord w / 256 % 2) 1 ≡ true
-mark-taken w = let e : markWord w / 256 ≡ 1 + w / 512 % 2 * 2 = omega arith in let d : markWord w / 256 % 2 ≡ 1 = rw e (omega arith) in rw d
-
-mark-goal : (w : ℕ) → markWord w / 512 % 2 ≡ w / 512 % 2
-mark-goal w = let e : markWord w / 512 ≡ w / 512 % 2 = omega arith in rw e (omega arith)
-
--- Word 18 of a row changed.
-slot-marked : (l t : List ℕ) → ((j : ℕ) → j < 18 → getD t j 0 ≡ getD l j 0) → getD t 18 0 ≡ markWord (getD l 18 0) → slotOf t ≡ takenSlot (slotOf l)
-unfolding slotOf takenSlot
-slot-marked l t h e =
-    let a : markWord (getD l 18 0) % 256 ≡ getD l 18 0 % 256 = omega arith in
-    let n = listOf-same (λ j. getD t j 0) (λ j. getD l j 0) 9 (λ j g. h j (omega arith)) in
-    let k = listOf-same (λ j. getD t (9 + j) 0) (λ j. getD l (9 + j) 0) 8 (λ j g. h (9 + j) (omega arith)) in
-    rw (n, k, h 17 (omega arith), e, a, mark-taken (getD l 18 0), mark-goal (getD l 18 0))
 
 -- A slot is marked by its word 18.
 pub slots-marked : (l t : List ℕ) (i v w : ℕ) → w ≡ word l (i * 20 + 18) → t ≡ withWord l (i * 20 + 18) v → v ≡ markWord w → v < 2 ^ 64 → i * 160 + 160 ≤ length l

@@ -24,7 +24,7 @@ slotOf a = record {
   parent = getD a 17 0 / 281474976710656 % 65536;
   action = getD a 18 0 % 256;
   taken = eqb (getD a 18 0 / 256 % 2) 1;
-  goal = eqb (getD a 18 0 / 512 % 2) 1
+  goal = eqb (getD a 18 0 / 512 % 2) 1;
 }
 
 abbrev pub keyWord : ℕ → ℕ → ℕ → ℕ
@@ -60,5 +60,5 @@ takenSlot s = record {
   parent = s .parent;
   action = s .action;
   taken = true;
-  goal = s .goal
+  goal = s .goal;
 }

@@ -88,6 +88,7 @@ fn choose(t: &[u8], best: Best, i: usize) -> Best
     }
 }
 
+// Its number alone.
 fn slot_of(best: Best) -> Found
     ensures { λ r. ⌜ r ≡ slotOfBest best ⌝ }
 {

@@ -7,10 +7,14 @@ ghost use lib.ListN.{length};
 ghost use Rattle.model.specs.Bits.{digit};
 ghost use Rattle.table.specs.Slots.{slotOf, rowOf, keyWord, flagWord, Narrow};
 
-// Where the parts of the words 17 and 18 begin, as weights.
+// Word 17 is the cost and the steps and the parent, so many times.
 pub const STEPS: u64 = 4294967296;
+
 pub const PARENT: u64 = 281474976710656;
+
+// Word 18 is the action and the bits taken and goal, so many times.
 pub const TAKEN: u64 = 256;
+
 pub const GOAL: u64 = 512;
 
 // The slot of a row.
@@ -29,14 +33,11 @@ pub fn unpack(a: [u64; ROW]) -> Slot
     }
 }
 
+// A bit as a number.
 fn bit(b: bool) -> u64
     ensures { λ r. ⌜ (r ≡ digit b) × (r < 2) ⌝ }
 {
-    if b {
-        1
-    } else {
-        0
-    }
+    if b { 1 } else { 0 }
 }
 
 // Word 17.
@@ -60,8 +61,26 @@ fn line(node: [u64; 9], hints: [u64; 8], key: u64, flags: u64) -> [u64; ROW]
     ensures { λ r. ⌜ (r ≡ rowOf node hints key flags) × (length node ≡ 9) × (length hints ≡ 8) ⌝ }
 {
     [
-        node[0], node[1], node[2], node[3], node[4], node[5], node[6], node[7], node[8], hints[0], hints[1], hints[2], hints[3], hints[4],
-        hints[5], hints[6], hints[7], key, flags, 0,
+        node[0],
+        node[1],
+        node[2],
+        node[3],
+        node[4],
+        node[5],
+        node[6],
+        node[7],
+        node[8],
+        hints[0],
+        hints[1],
+        hints[2],
+        hints[3],
+        hints[4],
+        hints[5],
+        hints[6],
+        hints[7],
+        key,
+        flags,
+        0,
     ]
 }
 

@@ -3,7 +3,10 @@ use super::Slot;
 use super::cells;
 use super::cells::ROW;
 use super::rows;
-use super::rows::{GOAL, PARENT, STEPS, TAKEN};
+use super::rows::GOAL;
+use super::rows::PARENT;
+use super::rows::STEPS;
+use super::rows::TAKEN;
 ghost use mathlib.Core.Path.{_≡_};
 ghost use Prim.Native.Nat.{_+_, _*_, _≤_, _<_};
 ghost use lib.ListN.{length, set, replicate};
@@ -18,11 +21,7 @@ pub fn capacity(t: &[u8]) -> usize
     ensures { λ r. ⌜ (r ≡ slotsIn (now (t .entry))) × (r * 160 ≤ length (now (t .entry))) × (r ≤ 65536) ⌝ }
 {
     let n = t.len() / SLOT;
-    if n <= 65536 {
-        n
-    } else {
-        65536
-    }
+    if n <= 65536 { n } else { 65536 }
 }
 
 // Makes every byte zero.
@@ -39,7 +38,7 @@ pub fn clear(t: &mut [u8])
 // The slot i.
 pub fn load(t: &[u8], i: usize) -> Slot
     requires { ⌜ i * 160 + 160 ≤ length (now t) ⌝ }
-    ensures { λ r. ⌜ r ≡ slotAt (now (t .entry)) i ⌝ }
+    ensures { λ r. ⌜ (r ≡ slotAt (now (t .entry)) i) × Narrow r ⌝ }
 {
     rows::unpack(cells::get_row(t, i))
 }

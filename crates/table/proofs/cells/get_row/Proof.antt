@@ -22,13 +22,13 @@ unfolding listOf
 loop-holds c = (refl, omega arith)
 
 loop-again : tie.Need-loop-again Inv-loop μ-loop
-loop-again c = 
+loop-again c =
     let l = c .before .before .loop in
     (listOf-more _ _ (l .a) (l .j) _ (l .inv .0) (c .get .ensures) (omega arith), omega arith)
 
 returns : tie.Need-returns Inv-loop μ-loop
 unfolding row
-returns c = 
+returns c =
     let e : c .before .loop .j ≡ 20 = omega arith in
     rw (e, append-nil) at (c .before .loop .inv .0)
 

@@ -20,19 +20,19 @@ loop-holds : tie.Need-loop-holds Inv-loop μ-loop
 loop-holds c = (refl, omega arith)
 
 returns : tie.Need-returns Inv-loop μ-loop
-returns c = 
+returns c =
     let l = c .before .before .before .loop in
     let s = c .before .before .before .before .before in
-    find-here _ (take (s .args .n) (slots (s .args .t .now))) (l .i) _ (l .inv .0) (first-at _ _ (s .pre) (l .i) (omega arith)) (sym (c .if1 .taken) ∙ c .before .is-node .ensures) (omega (arith, length-first (s .args .t .now) (s .args .n) (s .pre)))
+    find-here _ (take (s .args .n) (slots (s .args .t .now))) (l .i) _ (l .inv .0) (first-at _ (s .args .n) (l .i) (omega arith)) (sym (c .if1 .taken) ∙ c .before .is-node .ensures) (omega (arith, length-first (s .args .t .now) (s .args .n) (s .pre)))
 
 loop-again : tie.Need-loop-again Inv-loop μ-loop
-loop-again c = 
+loop-again c =
     let l = c .before .before .before .loop in
     let s = c .before .before .before .before .before in
-    (find-on _ (take (s .args .n) (slots (s .args .t .now))) (l .i) _ (l .inv .0) (first-at _ _ (s .pre) (l .i) (omega arith)) (sym (c .if1 .left) ∙ c .before .is-node .ensures) (omega (arith, length-first (s .args .t .now) (s .args .n) (s .pre))), omega arith)
+    (find-on _ (take (s .args .n) (slots (s .args .t .now))) (l .i) _ (l .inv .0) (first-at _ (s .args .n) (l .i) (omega arith)) (sym (c .if1 .left) ∙ c .before .is-node .ensures) (omega (arith, length-first (s .args .t .now) (s .args .n) (s .pre))), omega arith)
 
 returns-2 : tie.Need-returns-2 Inv-loop μ-loop
-returns-2 c = 
+returns-2 c =
     let l = c .before .loop in
     let s = c .before .before .before in
     find-end _ (take (s .args .n) (slots (s .args .t .now))) (l .i) (l .inv .0) (omega (arith, length-first (s .args .t .now) (s .args .n) (s .pre)))

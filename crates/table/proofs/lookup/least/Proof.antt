@@ -17,18 +17,18 @@ abbrev μ-loop : tie.MeasureT-loop
 μ-loop t n best₀ i₀ best i = i
 
 loop-holds : tie.Need-loop-holds Inv-loop μ-loop
-loop-holds c = 
+loop-holds c =
     let s = c .before in
     (least-none (take (s .args .n) (slots (s .args .t .now))) (s .args .n) (omega (arith, length-first (s .args .t .now) (s .args .n) (s .pre))), omega arith)
 
 loop-again : tie.Need-loop-again Inv-loop μ-loop
-loop-again c = 
+loop-again c =
     let l = c .before .before .loop in
     let s = c .before .before .before .before in
-    (least-more (take (s .args .n) (slots (s .args .t .now))) (l .i - 1) (l .i) _ _ _ (l .inv .0) (c .choose .ensures) (omega arith) (first-at _ _ (s .pre) (l .i - 1) (omega arith)) (omega (arith, length-first (s .args .t .now) (s .args .n) (s .pre))), omega arith)
+    (least-more (take (s .args .n) (slots (s .args .t .now))) (l .i - 1) (l .i) _ _ _ (l .inv .0) (c .choose .ensures) (omega arith) (first-at _ (s .args .n) (l .i - 1) (omega arith)) (omega (arith, length-first (s .args .t .now) (s .args .n) (s .pre))), omega arith)
 
 returns : tie.Need-returns Inv-loop μ-loop
-returns c = 
+returns c =
     let l = c .before .before .loop in
     let e : l .i ≡ 0 = omega arith in
     c .slot-of .ensures ∙ ap slotOfBest (rw e at (l .inv .0))

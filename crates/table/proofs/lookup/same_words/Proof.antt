@@ -20,19 +20,19 @@ loop-holds : tie.Need-loop-holds Inv-loop μ-loop
 loop-holds c = (refl, omega arith)
 
 returns : tie.Need-returns Inv-loop μ-loop
-returns c = 
+returns c =
     let l = c .before .before .before .loop in
     let s = c .before .before .before .before .before in
     node-not _ (s .args .t3) _ (s .pre) (omega arith) (l .j) _ (l .inv .0) (c .before .get .ensures) (c .if1 .taken) (omega arith)
 
 loop-again : tie.Need-loop-again Inv-loop μ-loop
-loop-again c = 
+loop-again c =
     let l = c .before .before .before .loop in
     let s = c .before .before .before .before .before in
     (node-on _ (s .args .t3) _ (s .pre) (omega arith) (l .j) _ (l .inv .0) (c .before .get .ensures) (c .if1 .left) (omega arith), omega arith)
 
 returns-2 : tie.Need-returns-2 Inv-loop μ-loop
-returns-2 c = 
+returns-2 c =
     let l = c .before .loop in
     let s = c .before .before .before in
     node-end _ (s .args .t3) _ (s .pre) (omega arith) (l .j) (l .inv .0) (omega arith)

@@ -1,5 +1,5 @@
 -- `pack` makes a row that gives the slot again.
-use Rattle.table.proofs.SlotLaws.{slot-again}
+use Rattle.table.proofs.RowLaws.{slot-again}
 use borrow.Author.Needs.{needs}
 use Rattle.table.proofs.rows.pack.Statement.{statement}
 use Rattle.table.proofs.rows.pack.Tie as tie

@@ -6,7 +6,7 @@ use Rattle.table.proofs.slots.store.Statement.{statement}
 use Rattle.table.proofs.slots.store.Tie as tie
 
 returns : tie.Need-returns
-returns c = 
+returns c =
     let s = c .before .before .before .before .before .before in
     slots-set (s .args .t .now) _ _ (s .args .i) _ (c .before .before .put-row .ensures) (c .before .before .before .pack .ensures) (omega arith) (s .pre .0)
 
