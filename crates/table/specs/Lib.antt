@@ -1,0 +1,4 @@
+-- What the contracts of the table cite.
+pub mod Cells
+pub mod Slots
+pub mod Lookup

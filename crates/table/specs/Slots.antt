@@ -1,0 +1,64 @@
+-- The slots of a table: what the contracts say of its bytes.
+use mathlib.Core.Bool.{Bool, true, false}
+use mathlib.Core.List.{List, [], _∷_, _++_}
+use Prim.Native.Nat.{ℕ, _+_, _*_, _/_, _%_, _<_}
+use lib.ListN.{length, getD, replicate}
+use lib.Dec.{eqb}
+use Rattle.model.specs.Bits.{digit}
+use Rattle.model.specs.job.Job.{listOf}
+use Rattle.table.specs.declared.Slot.{Slot}
+use Rattle.table.specs.Cells.{row}
+
+-- a slot's numbers are within their widths
+abbrev pub Narrow : Slot → Type 0
+Narrow s = (s .cost < 4294967296) × (s .steps < 65536) × (s .parent < 65536) × (s .action < 256)
+
+-- the slot of a row
+unfoldable pub slotOf : List ℕ → Slot
+unfolding listOf
+slotOf a = record {
+  node = listOf (λ j. getD a j 0) 9;
+  hints = listOf (λ j. getD a (9 + j) 0) 8;
+  cost = getD a 17 0 % 4294967296;
+  steps = getD a 17 0 / 4294967296 % 65536;
+  parent = getD a 17 0 / 281474976710656 % 65536;
+  action = getD a 18 0 % 256;
+  taken = eqb (getD a 18 0 / 256 % 2) 1;
+  goal = eqb (getD a 18 0 / 512 % 2) 1;
+}
+
+abbrev pub keyWord : ℕ → ℕ → ℕ → ℕ
+keyWord cost steps parent = cost + steps * 4294967296 + parent * 281474976710656
+
+abbrev pub flagWord : ℕ → Bool → Bool → ℕ
+flagWord action taken goal = action + digit taken * 256 + digit goal * 512
+
+-- a row of its parts
+unfoldable pub rowOf : List ℕ → List ℕ → ℕ → ℕ → List ℕ
+unfolding listOf
+rowOf node hints key flags = listOf (λ j. getD node j 0) 9 ++ listOf (λ j. getD hints j 0) 8 ++ (key ∷ flags ∷ 0 ∷ [])
+
+-- all whole slots of the bytes
+unfoldable pub slots : List ℕ → List Slot
+slots l = listOf (λ i. slotOf (row l i)) (length l / 160)
+
+-- what stands for a slot where there is none
+unfoldable pub noSlot : Slot
+noSlot = record { node = replicate 9 0; hints = replicate 8 0; cost = 0; steps = 0; parent = 0; action = 0; taken = false; goal = false }
+
+-- slot i
+abbrev pub slotAt : List ℕ → ℕ → Slot
+slotAt l i = getD (slots l) i noSlot
+
+-- a slot that is taken now
+unfoldable pub takenSlot : Slot → Slot
+takenSlot s = record {
+  node = s .node;
+  hints = s .hints;
+  cost = s .cost;
+  steps = s .steps;
+  parent = s .parent;
+  action = s .action;
+  taken = true;
+  goal = s .goal;
+}
