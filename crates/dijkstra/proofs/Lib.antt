@@ -1,1 +1,5 @@
 pub mod Examples
+pub mod Slots
+pub mod Finding
+pub mod Invariant
+pub mod Kept
