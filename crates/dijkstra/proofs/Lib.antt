@@ -3,3 +3,5 @@ pub mod Slots
 pub mod Finding
 pub mod Invariant
 pub mod Kept
+pub mod Sending
+pub mod Arriving
