@@ -5,3 +5,4 @@ pub mod Invariant
 pub mod Kept
 pub mod Sending
 pub mod Arriving
+pub mod Following
