@@ -1,4 +1,4 @@
--- One action from a slot, and all actions: the table goes on with the invariant, or it is full and a new node arrives.
+-- One action from a slot that leads to a node: what becomes of the table, where it goes on.
 use mathlib.Core.Path.{_≡_, refl, sym, ap, _∙_, subst}
 use Prim.Native.Nat.{ℕ, zero, suc, _≤_, _<_}
 use native.Mathlib.Omega.{arith}
@@ -60,7 +60,7 @@ module _ (S : System) (laws : Laws S) (slots : ℕ) where
     -- ---- a slot that the arrival alone makes
 
     module _ {n : S .Node} (leads : S .step (q .node) c ≡ some n) where
-      abbrev newcomer : Held S
+      abbrev pub newcomer : Held S
       newcomer = record { node = n; key = extend (q .key) (S .cost c); hints = S .carry (q .hints) n c; parent = i; action = c; taken = false }
 
       abbrev link : Linked S t newcomer
@@ -79,7 +79,7 @@ module _ (S : System) (laws : Laws S) (slots : ℕ) where
           proper = laws .carry-proper (q .hints) n c (x .inv .proper i q (x .held))
 
       -- at a new node
-      new-went : ((s : ℕ) (r : Held S) → Holds t s r → S .same n (r .node) ≡ false) → length t < slots → Went m0 t i q (suc c) (goes-on (t ++ (newcomer ∷ [])))
+      pub new-went : ((s : ℕ) (r : Held S) → Holds t s r → S .same n (r .node) ≡ false) → length t < slots → Went m0 t i q (suc c) (goes-on (t ++ (newcomer ∷ [])))
       new-went new l = (onwards u (put-keeps S put free) (put-back S put refl) inv, put-keeps S put free, λ e. simp length-append (omega arith))
         where
           u : Table S
@@ -101,7 +101,7 @@ module _ (S : System) (laws : Laws S) (slots : ℕ) where
     -- ---- at the node of slot j
 
     module _ (j : ℕ) (r : Held S) (held : Holds t j r) (leads : S .step (q .node) c ≡ some (r .node)) where
-      abbrev y : Entry S
+      abbrev pub y : Entry S
       y = arrival S x b leads
 
       apart : (s : ℕ) (p : Held S) → (s ≡ j → ⊥) → Holds t s p → p .node ≡ r .node → ⊥
@@ -130,12 +130,12 @@ module _ (S : System) (laws : Laws S) (slots : ℕ) where
           (onwards (set t j v) keeps (put-back S put w) (f (set t j v) put), keeps, λ e. simp length-set e)
 
       -- with a lesser key
-      less-went : r .taken ≡ false → Lt (y .key) (r .key) → Went m0 t i q (suc c) (goes-on (set t j (newcomer leads)))
+      pub less-went : r .taken ≡ false → Lt (y .key) (r .key) → Went m0 t i q (suc c) (goes-on (set t j (newcomer leads)))
       less-went o l = set-went (newcomer leads) o refl (λ u put. alone-inv leads u j put (away (lt-le _ _ l)) (free o) there′ apart
           (λ z k e. lt-le-trans _ _ _ l (low-at S (x .inv) j r held z k e)))
 
       -- with a larger key, or a taken slot
-      larger-went : Lt (r .key) (y .key) → Went m0 t i q (suc c) (goes-on (set t j r))
+      pub larger-went : Lt (r .key) (y .key) → Went m0 t i q (suc c) (goes-on (set t j r))
       larger-went l = subst (λ (u : Table S). Went m0 t i q (suc c) (goes-on u)) (sym (set-held t j r held))
           (onwards t (λ s p k h. h) (λ s p k h. h) (larger-inv S laws x b leads j r held refl l), (λ s p k h. h), λ e. e)
 
@@ -182,7 +182,7 @@ module _ (S : System) (laws : Laws S) (slots : ℕ) where
             let d = path-length S (x .inv) (q .key .steps) i q (x .held) refl in
             a ∙ steps ∙ simp length-append (omega arith)
 
-        tied-went : Went m0 t i q (suc c) (goes-on (set t j (tied S t r (y .hints) i c)))
+        pub tied-went : Went m0 t i q (suc c) (goes-on (set t j (tied S t r (y .hints) i c)))
         unfolding tied
         tied-went = go (earlier (pathBy S t (r .key .steps) i c) (pathBy S t (r .key .steps) (r .parent) (r .action))) refl
           where

@@ -121,3 +121,23 @@ module _ (S : System) where
         let same : f .0 ≡ i = inv .distinct (f .0) i (f .1) r (f .2) h (f .3 ∙ sym e) in
         let q : f .1 ≡ r = holds-one t i (subst (λ (j : ℕ). Holds t j (f .1)) same (f .2)) h in
         subst (λ (z : Held S). Le (z .key) (x .key)) q (f .4)
+
+    -- The invariant goes by which arrivals there are, not by how they are described.
+    pub inv-map : (Q : Entry S → Type 0) → ((x : Entry S) → P x → Q x) → ((x : Entry S) → Q x → P x) → Inv m0 t Q
+    inv-map Q to back = record {
+      distinct = inv .distinct;
+      begun = inv .begun;
+      linked = inv .linked;
+      gathers = gathers;
+      proper = inv .proper;
+      low = λ x q. inv .low x (back x q);
+      order = inv .order;
+      barren = inv .barren;
+      sent = λ x q. inv .sent x (back x q);
+    }
+      where
+        gathers : (i : ℕ) (r : Held S) → Holds t i r → (i ≡ 0 → ⊥) → Gathers Q (entry t i r)
+        gathers i r h n = let g = inv .gathers i r h n in record {
+          conjoined = λ s. (λ a x q m. (g .conjoined s) .0 a x (back x q) m, λ a. (g .conjoined s) .1 (λ x p m. a x (to x p) m));
+          first = λ x q m. g .first x (back x q) m;
+        }

@@ -6,3 +6,4 @@ pub mod Kept
 pub mod Sending
 pub mod Arriving
 pub mod Following
+pub mod Expansion
