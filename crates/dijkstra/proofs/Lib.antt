@@ -7,3 +7,4 @@ pub mod Sending
 pub mod Arriving
 pub mod Following
 pub mod Expansion
+pub mod Taking
