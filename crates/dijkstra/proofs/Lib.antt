@@ -8,3 +8,4 @@ pub mod Arriving
 pub mod Following
 pub mod Expansion
 pub mod Taking
+pub mod Solution
