@@ -15,18 +15,11 @@ use Rattle.model.proofs.exploration.Laws.{Laws}
 use Rattle.model.proofs.exploration.Arrivals.{To}
 use Rattle.model.proofs.exploration.Gather.{At}
 use Rattle.dijkstra.specs.Records.{Held, Table, pathOf}
+use Rattle.dijkstra.proofs.Both.{and-split, and-join}
 use Rattle.dijkstra.proofs.Slots.{Holds, holds-one, Put, put-each}
 use Rattle.dijkstra.proofs.Invariant.{entry, Linked, Sent, Gathers, Inv, Keeps, linked-steps, path-suc, path-keeps}
 use Rattle.dijkstra.proofs.Kept.{Fits, put-inv}
 use Rattle.dijkstra.proofs.Sending.{Before, Expanding, put-keeps, put-back, arrival, before-old, before-new, before-cases}
-
-and-split : (a b : Bool) → (a && b) ≡ true → (a ≡ true) × (b ≡ true)
-and-split true b h = (refl, h)
-and-split false b h = absurd (true≢false (sym h))
-
-and-join : (a b : Bool) → a ≡ true → b ≡ true → (a && b) ≡ true
-and-join true b p q = q
-and-join false b p q = p
 
 module _ (S : System) (laws : Laws S) {m0 : S .Node} {t : Table S} {i : ℕ} {q : Held S} {c : ℕ} (x : Expanding S m0 t i q c) (b : c < S .actions)
     {n : S .Node} (leads : S .step (q .node) c ≡ some n) where

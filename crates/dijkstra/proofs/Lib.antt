@@ -1,6 +1,8 @@
 pub mod Examples
+pub mod Both
 pub mod Slots
 pub mod Finding
+pub mod Goals
 pub mod Invariant
 pub mod Kept
 pub mod Sending
@@ -9,3 +11,4 @@ pub mod Following
 pub mod Expansion
 pub mod Taking
 pub mod Solution
+pub mod Plans
