@@ -12,3 +12,4 @@ pub mod Expansion
 pub mod Taking
 pub mod Solution
 pub mod Plans
+pub mod Ends
