@@ -13,3 +13,4 @@ pub mod Taking
 pub mod Solution
 pub mod Plans
 pub mod Ends
+pub mod Taken
