@@ -104,6 +104,9 @@ module _ (S : System) where
         let k = path-length n (r .parent) (l .source) (l .held) (omega (arith, linked-steps l)) in
         ap length (path-suc t n i h) ∙ simp length-append (omega arith)
 
+    pub sized : (k : Key) (i : ℕ) (r : Held S) → Holds t i r → r .key ≡ k → length (pathOf S t (k .steps) i) ≡ k .steps
+    sized k i r h e = path-length (k .steps) i r h (ap (λ (z : Key). z .steps) e)
+
     -- Paths stay as they are while taken records do and a record keeps its parent and action.
     pub path-keeps : (u : Table S) → Keeps t u → (n i : ℕ) (r q : Held S) → Holds t i r → Holds u i q → q .parent ≡ r .parent → q .action ≡ r .action → r .key .steps ≡ n → pathOf S u n i ≡ pathOf S t n i
     unfolding pathOf

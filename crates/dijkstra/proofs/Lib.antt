@@ -14,3 +14,4 @@ pub mod Solution
 pub mod Plans
 pub mod Ends
 pub mod Taken
+pub mod Turning

@@ -19,7 +19,7 @@ use Rattle.dijkstra.specs.Records.{Held, Table, pathOf}
 use Rattle.dijkstra.specs.Search.{firstGoal}
 use Rattle.dijkstra.proofs.Slots.{Holds, holds-one}
 use Rattle.dijkstra.proofs.Goals.{AtGoal, goal-some}
-use Rattle.dijkstra.proofs.Invariant.{entry, Linked, Sent, Inv, linked-steps, path-suc, start-steps, steps-linked, zero-slot, path-length}
+use Rattle.dijkstra.proofs.Invariant.{entry, Linked, Sent, Inv, linked-steps, path-suc, start-steps, steps-linked, zero-slot, path-length, sized}
 use Rattle.dijkstra.proofs.Solution.{Up, as-sent, as-sent-key, was-made, start-node, up-solves}
 
 module _ (S : System) {m0 : S .Node} (starts : Starts S m0) {t : Table S} (inv : Inv S m0 t (Sent S t)) (k : Key)
@@ -80,12 +80,9 @@ module _ (S : System) {m0 : S .Node} (starts : Starts S m0) {t : Table S} (inv :
 
   -- ---- the answer
 
-  pub sized : (i : ℕ) (r : Held S) → Holds t i r → r .key ≡ k → length (pathOf S t (k .steps) i) ≡ k .steps
-  sized i r h e = path-length S inv (k .steps) i r h (ap (λ (z : Key). z .steps) e)
-
   module _ {p : List ℕ} (found : firstGoal S t k t 0 ≡ some p) where
     abbrev best : ((i : ℕ) × (r : Held S) × Holds t i r × AtGoal S k r × (p ≡ pathOf S t (k .steps) i)) × ((i : ℕ) (r : Held S) → Holds t i r → AtGoal S k r → First p (pathOf S t (k .steps) i))
-    best = goal-some S k t sized found
+    best = goal-some S k t (sized S inv k) found
 
     abbrev r : Held S
     r = best .0 .1
