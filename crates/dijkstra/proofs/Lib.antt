@@ -15,3 +15,4 @@ pub mod Plans
 pub mod Ends
 pub mod Taken
 pub mod Turning
+pub mod Right
