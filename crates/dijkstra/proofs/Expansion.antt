@@ -87,8 +87,7 @@ module _ (S : System) (laws : Laws S) (slots : ℕ) where
           go none f = room (ltb (length t) slots) refl f
           go (some j) f = let r = find-some S n t f in known f (r .0) (r .1) (laws .same-eq _ _ (r .2))
 
-    -- One action made: a table that goes on is in the next state of the expansion.
-    pub follow-went : Went S laws slots m0 t i q (suc c) (follow S slots t q i c)
+    follow-went : Went S laws slots m0 t i q (suc c) (follow S slots t q i c)
     unfolding follow
     follow-went = go (S .step (q .node) c) refl
       where
@@ -120,9 +119,14 @@ module _ (S : System) (laws : Laws S) (slots : ℕ) where
   -- ---- all actions
 
   module _ {m0 : S .Node} {i : ℕ} (r : Held S) where
+    -- One action made from a slot just taken: the table goes on in the next state of the expansion, or it is full.
+    pub follow-taken : {t : Table S} {c : ℕ} → Expanding S m0 t i (take-it S r) c → c < S .actions → Went S laws slots m0 t i (take-it S r) (suc c) (follow S slots t r i c)
+    unfolding follow take-it
+    follow-taken x b = follow-went x b
+
     -- The actions below c made: the table goes on in that state of the expansion, or it is full.
     pub expand-went : {t : Table S} → Expanding S m0 t i (take-it S r) 0 → (c : ℕ) → c ≤ S .actions → Went S laws slots m0 t i (take-it S r) c (expand S slots t r i c)
-    unfolding expand follow take-it
+    unfolding expand
     expand-went {t} x zero b = (x, (λ s p k h. h), λ l. l)
     expand-went {t} x (suc c) b = go (expand S slots t r i c) refl (expand-went x c (omega arith))
       where
@@ -133,5 +137,5 @@ module _ (S : System) (laws : Laws S) (slots : ℕ) where
         go : (f : Filled S) → expand S slots t r i c ≡ f → Went S laws slots m0 t i (take-it S r) c (expand S slots t r i c) → Went S laws slots m0 t i (take-it S r) (suc c) (expand S slots t r i (suc c))
         go (goes-on u) e ih =
             let w = rw e at ih in
-            rw (e, expand) (next u (w .1) (w .2) (follow S slots u r i c) (follow-went (w .0) (omega arith)))
+            rw (e, expand) (next u (w .1) (w .2) (follow S slots u r i c) (follow-taken (w .0) (omega arith)))
         go full e ih = rw (e, expand) (rw e at ih)

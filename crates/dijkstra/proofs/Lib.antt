@@ -16,3 +16,4 @@ pub mod Ends
 pub mod Taken
 pub mod Turning
 pub mod Right
+pub mod Chains
