@@ -17,7 +17,7 @@ use Rattle.model.proofs.exploration.Gather.{At}
 use Rattle.dijkstra.specs.Records.{Held, Table, pathOf}
 use Rattle.dijkstra.proofs.Both.{and-split, and-join}
 use Rattle.dijkstra.proofs.Slots.{Holds, holds-one, Put, put-each}
-use Rattle.dijkstra.proofs.Invariant.{entry, Linked, Sent, Gathers, Inv, Keeps, linked-steps, path-suc, path-keeps}
+use Rattle.dijkstra.proofs.Invariant.{entry, Linked, Sent, Gathers, Inv, Keeps, linked-steps, path-suc, entry-keeps, inv-more}
 use Rattle.dijkstra.proofs.Kept.{Fits, put-inv}
 use Rattle.dijkstra.proofs.Sending.{Before, Expanding, put-keeps, put-back, arrival, before-old, before-new, before-cases}
 
@@ -30,74 +30,53 @@ module _ (S : System) (laws : Laws S) {m0 : S .Node} {t : Table S} {i : ℕ} {q 
   pub above-taken : (s : ℕ) (r : Held S) → Holds t s r → r .taken ≡ true → Lt (r .key) (y .key)
   above-taken s r h k = le-lt-trans _ _ _ (x .top s r h k) (extend-lt (q .key) (S .cost c))
 
-  -- ---- an arrival with a larger key than the node's
-
-  module _ (j : ℕ) (r : Held S) (held : Holds t j r) (node : r .node ≡ n) (larger : Lt (r .key) (y .key)) where
-    cases : (z : Entry S) → Before S t i (suc c) z → Before S t i c z ⊎ (z ≡ y)
-    cases = before-cases S x b leads t (λ s p k h. h) (λ s p k h. h)
-
-    -- The arrival is not at the node and of the key of an entry.
-    elsewhere : (s : ℕ) (p : Held S) → Holds t s p → At S (entry S t s p) y → ⊥
-    elsewhere s p h m =
-        let e : s ≡ j = x .inv .distinct s j p r h held (sym (m .0) ∙ sym node) in
-        let d : p ≡ r = holds-one t j (subst (λ (k : ℕ). Holds t k p) e h) held in
-        not-below (r .key) (y .key) larger (subst (λ (k : Key). Le k (r .key)) (sym (m .1 ∙ ap (λ (z : Held S). z .key) d)) (le-refl (r .key)))
-
-    old : (s : ℕ) (p : Held S) → Holds t s p → (z : Entry S) → At S (entry S t s p) z → Before S t i c z ⊎ (z ≡ y) → Before S t i c z
-    old s p h z m (inl k) = k
-    old s p h z m (inr e) = absurd (elsewhere s p h (subst (At S (entry S t s p)) e m))
-
-    larger-low : (z : Entry S) → Before S t i c z ⊎ (z ≡ y) → (k : ℕ) × (p : Held S) × Holds t k p × (p .node ≡ z .node) × Le (p .key) (z .key)
-    larger-low z (inl k) = x .inv .low z k
-    larger-low z (inr e) = subst (λ (z : Entry S). (k : ℕ) × (p : Held S) × Holds t k p × (p .node ≡ z .node) × Le (p .key) (z .key)) (sym e) (j, r, held, node, lt-le _ _ larger)
-
-    larger-gathers : (s : ℕ) (p : Held S) → Holds t s p → (s ≡ 0 → ⊥) → Gathers S (Before S t i (suc c)) (entry S t s p)
-    larger-gathers s p h f = let g = x .inv .gathers s p h f in record {
-      conjoined = λ σ. (λ a z k m. (g .conjoined σ) .0 a z (old s p h z m (cases z k)) m, λ a. (g .conjoined σ) .1 (λ z k m. a z (before-old S x b leads t (λ s p k h. h) z k) m));
-      first = λ z k m. g .first z (old s p h z m (cases z k)) m;
-    }
-
-    -- changes nothing.
-    pub larger-inv : Inv S m0 t (Before S t i (suc c))
-    larger-inv = record {
-      distinct = x .inv .distinct;
-      begun = x .inv .begun;
-      linked = x .inv .linked;
-      gathers = larger-gathers;
-      proper = x .inv .proper;
-      low = λ z k. larger-low z (cases z k);
-      order = x .inv .order;
-      barren = x .inv .barren;
-      sent = λ z k. k .0;
-    }
+  -- An arrival with a larger key than its node's changes nothing.
+  pub larger-inv : (j : ℕ) (r : Held S) → Holds t j r → r .node ≡ n → Lt (r .key) (y .key) → Inv S m0 t (Before S t i (suc c))
+  larger-inv j r held node larger = inv-more S (x .inv) (Before S t i (suc c)) (before-old S x b leads t (λ s p k h. h))
+      (λ z k. go z (before-cases S x b leads t (λ s p k h. h) (λ s p k h. h) z k)) (λ z k. k .0)
+    where
+      go : (z : Entry S) → Before S t i c z ⊎ (z ≡ y) → Before S t i c z ⊎ ((j : ℕ) × (r : Held S) × Holds t j r × (r .node ≡ z .node) × Lt (r .key) (z .key))
+      go z (inl k) = inl k
+      go z (inr e) = inr (j, r, held, node ∙ ap (λ (w : Entry S). w .node) (sym e), subst (λ (w : Entry S). Lt (r .key) (w .key)) (sym e) larger)
 
   -- ---- an arrival that changes a slot
 
-  module _ (u : Table S) (j : ℕ) (v : Held S) (put : Put t u j v) (away : j ≡ 0 → ⊥) (open′ : v .taken ≡ false) (free : (r : Held S) → Holds t j r → r .taken ≡ true → ⊥)
-      (node : v .node ≡ n) (key : v .key ≡ y .key) (there′ : (r : Held S) → Holds t j r → r .node ≡ n)
-      (apart : (s : ℕ) (r : Held S) → (s ≡ j → ⊥) → Holds t s r → r .node ≡ n → ⊥) (linked : Linked S t v) (proper : S .Proper (v .hints)) where
+  -- The slot j, which is not taken, becomes v, a record of the arrival's node and key.
+  pub record Change (u : Table S) (j : ℕ) (v : Held S) : Type 0 where
+    pub put : Put t u j v
+    pub away : j ≡ 0 → ⊥
+    pub isOpen : v .taken ≡ false
+    pub free : (r : Held S) → Holds t j r → r .taken ≡ true → ⊥
+    pub node : v .node ≡ n
+    pub key : v .key ≡ y .key
+    pub place : (r : Held S) → Holds t j r → r .node ≡ n
+    pub apart : (s : ℕ) (r : Held S) → Holds t s r → r .node ≡ n → s ≡ j
+    pub linked : Linked S t v
+    pub proper : S .Proper (v .hints)
+
+  module _ {u : Table S} {j : ℕ} {v : Held S} (ch : Change u j v) where
     keeps : Keeps S t u
-    keeps = put-keeps S put free
+    keeps = put-keeps S (ch .put) (ch .free)
 
     into : (z : Entry S) → Before S u i (suc c) z → Before S t i c z ⊎ (z ≡ y)
-    into = before-cases S x b leads u keeps (put-back S put open′)
+    into = before-cases S x b leads u keeps (put-back S (ch .put) (ch .isOpen))
 
     -- The changed slot fits, if no arrival at its node has a lesser key and it gathers those of its key.
     pub placed : ((z : Entry S) → Before S t i c z → n ≡ z .node → Le (y .key) (z .key)) → Gathers S (Before S u i (suc c)) (entry S u j v)
         → Inv S m0 u (Before S u i (suc c))
     placed low gathers = put-inv S m0 (x .inv) (record {
-      put = put;
+      put = ch .put;
       keeps = keeps;
-      apart = λ s r k h e. apart s r k h (e ∙ node);
-      node = λ r h. there′ r h ∙ sym node;
-      begins = λ e. absurd (away e);
-      linked = λ k. linked;
+      apart = λ s r h e. ch .apart s r h (e ∙ ch .node);
+      node = λ r h. ch .place r h ∙ sym (ch .node);
+      begins = λ e. absurd (ch .away e);
+      linked = λ k. ch .linked;
       gathers = λ k. gathers;
-      proper = proper;
-      low = λ z k e. subst (λ (d : Key). Le d (z .key)) (sym key) (low-go z (into z k) (sym node ∙ e));
-      above = λ o s r h k. subst (Le (r .key)) (sym key) (lt-le _ _ (above-taken s r h k));
-      below = λ k. absurd (true≢false (sym k ∙ open′));
-      barren = λ k. absurd (true≢false (sym k ∙ open′));
+      proper = ch .proper;
+      low = λ z k e. subst (λ (d : Key). Le d (z .key)) (sym (ch .key)) (low-go z (into z k) (sym (ch .node) ∙ e));
+      above = λ o s r h k. subst (Le (r .key)) (sym (ch .key)) (lt-le _ _ (above-taken s r h k));
+      below = λ k. absurd (true≢false (sym k ∙ ch .isOpen));
+      barren = λ k. absurd (true≢false (sym k ∙ ch .isOpen));
       fresh = λ z k. fresh-go z (into z k);
       more = before-old S x b leads u keeps;
       sent = λ z k. k .0;
@@ -109,14 +88,14 @@ module _ (S : System) (laws : Laws S) {m0 : S .Node} {t : Table S} {i : ℕ} {q 
 
         fresh-go : (z : Entry S) → Before S t i c z ⊎ (z ≡ y) → Before S t i c z ⊎ (v .node ≡ z .node)
         fresh-go z (inl k) = inl k
-        fresh-go z (inr d) = inr (node ∙ ap (λ (w : Entry S). w .node) (sym d))
+        fresh-go z (inr d) = inr (ch .node ∙ ap (λ (w : Entry S). w .node) (sym d))
 
     -- The path of the changed slot goes by its parent as it was.
-    pub placed-path : (l : Linked S t v) → entry S u j v .path ≡ pathOf S t (l .source .key .steps) (v .parent) ++ (v .action ∷ [])
-    placed-path l =
-        let p : pathOf S u (l .source .key .steps) (v .parent) ≡ pathOf S t (l .source .key .steps) (v .parent) =
-            path-keeps S (x .inv) u keeps _ (v .parent) (l .source) (l .source) (l .held) (keeps _ _ (l .taken) (l .held)) refl refl refl in
-        ap (λ (d : ℕ). pathOf S u d j) (linked-steps S l) ∙ path-suc S u (l .source .key .steps) j (put .new) ∙ ap (λ (z : List ℕ). z ++ (v .action ∷ [])) p
+    pub placed-path : entry S u j v .path ≡ pathOf S t (ch .linked .source .key .steps) (v .parent) ++ (v .action ∷ [])
+    placed-path =
+        let l = ch .linked in
+        let p : pathOf S u (l .source .key .steps) (v .parent) ≡ pathOf S t (l .source .key .steps) (v .parent) = ap (λ (e : Entry S). e .path) (entry-keeps S (x .inv) u keeps (v .parent) (l .source) (l .held) (keeps _ _ (l .taken) (l .held))) in
+        ap (λ (d : ℕ). pathOf S u d j) (linked-steps S l) ∙ path-suc S u (l .source .key .steps) j (ch .put .new) ∙ ap (λ (z : List ℕ). z ++ (v .action ∷ [])) p
 
     -- A slot that is the arrival alone gathers it.
     pub alone : entry S u j v ≡ y → ((z : Entry S) → Before S t i c z → n ≡ z .node → Lt (y .key) (z .key)) → Gathers S (Before S u i (suc c)) (entry S u j v)
@@ -133,7 +112,7 @@ module _ (S : System) (laws : Laws S) {m0 : S .Node} {t : Table S} {i : ℕ} {q 
     pub together : (r : Held S) → Gathers S (Before S t i c) (entry S t j r) → r .node ≡ v .node → r .key ≡ v .key → v .hints ≡ S .meet (r .hints) (y .hints)
         → First (entry S u j v .path) (entry S t j r .path) → First (entry S u j v .path) (y .path) → Gathers S (Before S u i (suc c)) (entry S u j v)
     together r g en ek eh f1 f2 = record {
-      conjoined = λ σ. (λ a z k m. each σ a z m (into z k), λ a. join σ ((g .conjoined σ) .1 (λ z k m. a z (before-old S x b leads u keeps z k) (m .0 ∙ en, m .1 ∙ ek))) (a y (before-new S x b leads u keeps) (sym node, sym key)));
+      conjoined = λ σ. (λ a z k m. each σ a z m (into z k), λ a. join σ ((g .conjoined σ) .1 (λ z k m. a z (before-old S x b leads u keeps z k) (m .0 ∙ en, m .1 ∙ ek))) (a y (before-new S x b leads u keeps) (sym (ch .node), sym (ch .key))));
       first = λ z k m. first z m (into z k);
     }
       where

@@ -20,7 +20,7 @@ use Rattle.dijkstra.proofs.Slots.{Holds, holds-one, holds-lt, Put, put-
 use Rattle.dijkstra.proofs.Finding.{find-none, find-some}
 use Rattle.dijkstra.proofs.Invariant.{entry, Linked, Inv, Keeps, linked-steps, path-suc, path-length, low-at}
 use Rattle.dijkstra.proofs.Sending.{Before, Expanding, put-keeps, put-back, arrival}
-use Rattle.dijkstra.proofs.Arriving.{above-taken, larger-inv, placed, placed-path, alone, together}
+use Rattle.dijkstra.proofs.Arriving.{larger-inv, Change, placed, placed-path, alone, together}
 
 lt-le-trans : (i j k : Key) → Lt i j → Le j k → Lt i k
 lt-le-trans i j k p q = (omega arith, λ e. omega (arith, p .1 (omega arith), q .1 (omega arith)))
@@ -66,17 +66,26 @@ module _ (S : System) (laws : Laws S) (slots : ℕ) where
       abbrev link : Linked S t newcomer
       link = record { source = q; held = x .held; taken = x .taken; uncut = x .uncut; inRange = b; leads = leads; keyIs = refl }
 
-      alone-inv : (u : Table S) (j : ℕ) → Put t u j newcomer → (j ≡ 0 → ⊥) → ((r : Held S) → Holds t j r → r .taken ≡ true → ⊥) → ((r : Held S) → Holds t j r → r .node ≡ n)
-          → ((s : ℕ) (r : Held S) → (s ≡ j → ⊥) → Holds t s r → r .node ≡ n → ⊥)
+      alone-inv : {u : Table S} {j : ℕ} → Put t u j newcomer → (j ≡ 0 → ⊥) → ((r : Held S) → Holds t j r → r .taken ≡ true → ⊥) → ((r : Held S) → Holds t j r → r .node ≡ n)
+          → ((s : ℕ) (r : Held S) → Holds t s r → r .node ≡ n → s ≡ j)
           → ((z : Entry S) → Before S t i c z → n ≡ z .node → Lt (extend (q .key) (S .cost c)) (z .key)) → Inv S m0 u (Before S u i (suc c))
-      alone-inv u j put away free there′ apart high =
-          let p = placed-path S laws x b leads u j newcomer put away refl free refl refl there′ apart link proper link in
-          let e : entry S u j newcomer ≡ arrival S x b leads = λ d. record { node = n; key = extend (q .key) (S .cost c); hints = S .carry (q .hints) n c; path = p d } in
-          placed S laws x b leads u j newcomer put away refl free refl refl there′ apart link proper (λ z k d. lt-le _ _ (high z k d))
-              (alone S laws x b leads u j newcomer put away refl free refl refl there′ apart link proper e high)
+      alone-inv {u} {j} put away free place apart high =
+          let e : entry S u j newcomer ≡ arrival S x b leads = λ d. record { node = n; key = extend (q .key) (S .cost c); hints = S .carry (q .hints) n c; path = placed-path S laws x b leads ch d } in
+          placed S laws x b leads ch (λ z k d. lt-le _ _ (high z k d)) (alone S laws x b leads ch e high)
         where
-          proper : S .Proper (S .carry (q .hints) n c)
-          proper = laws .carry-proper (q .hints) n c (x .inv .proper i q (x .held))
+          ch : Change S laws x b leads u j newcomer
+          ch = record {
+            put = put;
+            away = away;
+            isOpen = refl;
+            free = free;
+            node = refl;
+            key = refl;
+            place = place;
+            apart = apart;
+            linked = link;
+            proper = laws .carry-proper (q .hints) n c (x .inv .proper i q (x .held));
+          }
 
       -- at a new node
       pub new-went : ((s : ℕ) (r : Held S) → Holds t s r → S .same n (r .node) ≡ false) → length t < slots → Went m0 t i q (suc c) (goes-on (t ++ (newcomer ∷ [])))
@@ -95,7 +104,7 @@ module _ (S : System) (laws : Laws S) (slots : ℕ) where
           free r h k = omega (arith, holds-lt t (length t) h)
 
           inv : Inv S m0 u (Before S u i (suc c))
-          inv = alone-inv u (length t) put (λ e. omega (arith, holds-lt t 0 (x .inv .begun .1))) free (λ r h. absurd (omega (arith, holds-lt t (length t) h))) (λ s r k h. none-at s r h)
+          inv = alone-inv put (λ e. omega (arith, holds-lt t 0 (x .inv .begun .1))) free (λ r h. absurd (omega (arith, holds-lt t (length t) h))) (λ s r h e. absurd (none-at s r h e))
               (λ z k e. let o = x .inv .low z k in absurd (none-at (o .0) (o .1) (o .2) (o .3 ∙ sym e)))
 
     -- ---- at the node of slot j
@@ -104,11 +113,11 @@ module _ (S : System) (laws : Laws S) (slots : ℕ) where
       abbrev pub y : Entry S
       y = arrival S x b leads
 
-      apart : (s : ℕ) (p : Held S) → (s ≡ j → ⊥) → Holds t s p → p .node ≡ r .node → ⊥
-      apart s p k h e = k (x .inv .distinct s j p r h held e)
+      apart : (s : ℕ) (p : Held S) → Holds t s p → p .node ≡ r .node → s ≡ j
+      apart s p h e = x .inv .distinct s j p r h held e
 
-      there′ : (p : Held S) → Holds t j p → p .node ≡ r .node
-      there′ p h = ap (λ (z : Held S). z .node) (holds-one t j h held)
+      place : (p : Held S) → Holds t j p → p .node ≡ r .node
+      place p h = ap (λ (z : Held S). z .node) (holds-one t j h held)
 
       free : r .taken ≡ false → (p : Held S) → Holds t j p → p .taken ≡ true → ⊥
       free o p h k = true≢false (sym k ∙ ap (λ (z : Held S). z .taken) (holds-one t j h held) ∙ o)
@@ -131,7 +140,7 @@ module _ (S : System) (laws : Laws S) (slots : ℕ) where
 
       -- with a lesser key
       pub less-went : r .taken ≡ false → Lt (y .key) (r .key) → Went m0 t i q (suc c) (goes-on (set t j (newcomer leads)))
-      less-went o l = set-went (newcomer leads) o refl (λ u put. alone-inv leads u j put (away (lt-le _ _ l)) (free o) there′ apart
+      less-went o l = set-went (newcomer leads) o refl (λ u put. alone-inv leads put (away (lt-le _ _ l)) (free o) place apart
           (λ z k e. lt-le-trans _ _ _ l (low-at S (x .inv) j r held z k e)))
 
       -- with a larger key, or a taken slot
@@ -151,15 +160,23 @@ module _ (S : System) (laws : Laws S) (slots : ℕ) where
             → First (pathOf S t (l .source .key .steps) p ++ (a ∷ [])) (y .path) → Went m0 t i q (suc c) (goes-on (set t j (merged p a)))
         merged-went p a l f g = set-went (merged p a) o refl inv
           where
-            proper : S .Proper (S .meet (r .hints) (S .carry (q .hints) (r .node) c))
-            proper = laws .meet-proper _ _ (x .inv .proper j r held) (laws .carry-proper (q .hints) (r .node) c (x .inv .proper i q (x .held)))
-
             inv : (u : Table S) → Put t u j (merged p a) → Inv S m0 u (Before S u i (suc c))
             inv u put =
-                let e = placed-path S laws x b leads u j (merged p a) put far refl (free o) refl same there′ apart l proper l in
-                placed S laws x b leads u j (merged p a) put far refl (free o) refl same there′ apart l proper
-                    (λ z k d. subst (λ (w : Key). Le w (z .key)) same (low-at S (x .inv) j r held z k d))
-                    (together S laws x b leads u j (merged p a) put far refl (free o) refl same there′ apart l proper r (x .inv .gathers j r held far) refl refl refl
+                let ch : Change S laws x b leads u j (merged p a) = record {
+                  put = put;
+                  away = far;
+                  isOpen = refl;
+                  free = free o;
+                  node = refl;
+                  key = same;
+                  place = place;
+                  apart = apart;
+                  linked = l;
+                  proper = laws .meet-proper _ _ (x .inv .proper j r held) (laws .carry-proper (q .hints) (r .node) c (x .inv .proper i q (x .held)));
+                } in
+                let e = placed-path S laws x b leads ch in
+                placed S laws x b leads ch (λ z k d. subst (λ (w : Key). Le w (z .key)) same (low-at S (x .inv) j r held z k d))
+                    (together S laws x b leads ch r (x .inv .gathers j r held far) refl refl refl
                         (subst (λ (z : List ℕ). First z (entry S t j r .path)) (sym e) f) (subst (λ (z : List ℕ). First z (y .path)) (sym e) g))
 
         old-link : Linked S t r

@@ -7,9 +7,10 @@ use mathlib.Core.Option.{Option, none, some}
 use mathlib.Core.List.{List, [], _∷_, _++_}
 use mathlib.Core.Logic.{_⊎_, inl, inr, _↔_}
 use lib.ListN.{length, length-append, getElem?}
-use Rattle.model.specs.exploration.Key.{Key, zeroKey, extend, Le, First}
+use Rattle.model.specs.exploration.Key.{Key, zeroKey, extend, Le, Lt, First}
 use Rattle.model.specs.exploration.System.{System}
 use Rattle.model.specs.exploration.Explore.{Entry}
+use Rattle.model.proofs.exploration.KeyLaws.{le-refl, lt-le, not-below}
 use Rattle.model.proofs.exploration.Arrivals.{To}
 use Rattle.model.proofs.exploration.Gather.{At}
 use Rattle.dijkstra.specs.Records.{Held, Table, pathOf}
@@ -117,6 +118,12 @@ module _ (S : System) where
         let c : pathOf S u n (q .parent) ≡ pathOf S t n (r .parent) = ap (pathOf S u n) a ∙ ih in
         path-suc u n i g ∙ (λ d. c d ++ (b d ∷ [])) ∙ sym (path-suc t n i h)
 
+    -- A record that stays in its slot stays the same entry.
+    pub entry-keeps : (u : Table S) → Keeps t u → (i : ℕ) (r : Held S) → Holds t i r → Holds u i r → entry u i r ≡ entry t i r
+    entry-keeps u keeps i r h g =
+        let p : pathOf S u (r .key .steps) i ≡ pathOf S t (r .key .steps) i = path-keeps u keeps (r .key .steps) i r r h g refl refl refl in
+        λ d. record { node = r .node; key = r .key; hints = r .hints; path = p d }
+
     -- Of an arrival at a record's node the key is not less.
     pub low-at : (i : ℕ) (r : Held S) → Holds t i r → (x : Entry S) → P x → r .node ≡ x .node → Le (r .key) (x .key)
     low-at i r h x p e =
@@ -125,22 +132,42 @@ module _ (S : System) where
         let q : f .1 ≡ r = holds-one t i (subst (λ (j : ℕ). Holds t j (f .1)) same (f .2)) h in
         subst (λ (z : Held S). Le (z .key) (x .key)) q (f .4)
 
-    -- The invariant goes by which arrivals there are, not by how they are described.
-    pub inv-map : (Q : Entry S → Type 0) → ((x : Entry S) → P x → Q x) → ((x : Entry S) → Q x → P x) → Inv m0 t Q
-    inv-map Q to back = record {
+    -- x is at a node whose key is less
+    abbrev Passed : Entry S → Type 0
+    Passed x = (i : ℕ) × (r : Held S) × Holds t i r × (r .node ≡ x .node) × Lt (r .key) (x .key)
+
+    -- Arrivals at nodes whose keys are less change nothing.
+    pub inv-more : (Q : Entry S → Type 0) → ((x : Entry S) → P x → Q x) → ((x : Entry S) → Q x → P x ⊎ Passed x) → ((x : Entry S) → Q x → Sent t x) → Inv m0 t Q
+    inv-more Q to back sent = record {
       distinct = inv .distinct;
       begun = inv .begun;
       linked = inv .linked;
       gathers = gathers;
       proper = inv .proper;
-      low = λ x q. inv .low x (back x q);
+      low = λ x q. low x (back x q);
       order = inv .order;
       barren = inv .barren;
-      sent = λ x q. inv .sent x (back x q);
+      sent = sent;
     }
       where
+        old : (i : ℕ) (r : Held S) → Holds t i r → (x : Entry S) → At S (entry t i r) x → P x ⊎ Passed x → P x
+        old i r h x m (inl p) = p
+        old i r h x m (inr f) =
+            let e : i ≡ f .0 = inv .distinct i (f .0) r (f .1) h (f .2) (sym (m .0) ∙ sym (f .3)) in
+            let d : r ≡ f .1 = holds-one t (f .0) (subst (λ (j : ℕ). Holds t j r) e h) (f .2) in
+            let k : x .key ≡ f .1 .key = m .1 ∙ ap (λ (q : Held S). q .key) d in
+            absurd (not-below (f .1 .key) (x .key) (f .4) (subst (λ (z : Key). Le z (f .1 .key)) (sym k) (le-refl (f .1 .key))))
+
         gathers : (i : ℕ) (r : Held S) → Holds t i r → (i ≡ 0 → ⊥) → Gathers Q (entry t i r)
         gathers i r h n = let g = inv .gathers i r h n in record {
-          conjoined = λ s. (λ a x q m. (g .conjoined s) .0 a x (back x q) m, λ a. (g .conjoined s) .1 (λ x p m. a x (to x p) m));
-          first = λ x q m. g .first x (back x q) m;
+          conjoined = λ s. (λ a x q m. (g .conjoined s) .0 a x (old i r h x m (back x q)) m, λ a. (g .conjoined s) .1 (λ x p m. a x (to x p) m));
+          first = λ x q m. g .first x (old i r h x m (back x q)) m;
         }
+
+        low : (x : Entry S) → P x ⊎ Passed x → (i : ℕ) × (r : Held S) × Holds t i r × (r .node ≡ x .node) × Le (r .key) (x .key)
+        low x (inl p) = inv .low x p
+        low x (inr f) = (f .0, f .1, f .2, f .3, lt-le _ _ (f .4))
+
+    -- The invariant goes by which arrivals there are, not by how they are described.
+    pub inv-map : (Q : Entry S → Type 0) → ((x : Entry S) → P x → Q x) → ((x : Entry S) → Q x → P x) → Inv m0 t Q
+    inv-map Q to back = inv-more Q to (λ x q. inl (back x q)) (λ x q. inv .sent x (back x q))

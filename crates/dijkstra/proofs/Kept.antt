@@ -11,14 +11,15 @@ use Rattle.model.specs.exploration.Explore.{Entry}
 use Rattle.model.proofs.exploration.Gather.{At}
 use Rattle.dijkstra.specs.Records.{Held, Table, pathOf}
 use Rattle.dijkstra.proofs.Slots.{Holds, holds-one, Put, put-each}
-use Rattle.dijkstra.proofs.Invariant.{entry, Linked, Sent, Gathers, Begins, Inv, Keeps, path-keeps}
+use Rattle.dijkstra.proofs.Invariant.{entry, Linked, Sent, Gathers, Begins, Inv, Keeps, entry-keeps}
 
 module _ (S : System) (m0 : S .Node) where
   -- v in slot j makes the table u out of t, and arrivals Q out of P.
   pub record Fits (t u : Table S) (j : ℕ) (v : Held S) (P Q : Entry S → Type 0) : Type 0 where
     pub put : Put t u j v
     pub keeps : Keeps S t u
-    pub apart : (s : ℕ) (r : Held S) → (s ≡ j → ⊥) → Holds t s r → r .node ≡ v .node → ⊥
+    -- slot j and no other has the node of v
+    pub apart : (s : ℕ) (r : Held S) → Holds t s r → r .node ≡ v .node → s ≡ j
     pub node : (r : Held S) → Holds t j r → r .node ≡ v .node
     pub begins : j ≡ 0 → Begins S m0 v
     pub linked : (j ≡ 0 → ⊥) → Linked S t v
@@ -45,12 +46,6 @@ module _ (S : System) (m0 : S .Node) where
       keyIs = l .keyIs;
     }
 
-    -- Another slot's entry is as it was.
-    same-entry : (s : ℕ) (r : Held S) → (s ≡ j → ⊥) → Holds t s r → entry S u s r ≡ entry S t s r
-    same-entry s r n h =
-        let p : pathOf S u (r .key .steps) s ≡ pathOf S t (r .key .steps) s = path-keeps S inv u (f .keeps) (r .key .steps) s r r h (f .put .old s n ∙ h) refl refl refl in
-        λ i. record { node = r .node; key = r .key; hints = r .hints; path = p i }
-
     keep-gathers : (s : ℕ) (r : Held S) → (s ≡ j → ⊥) → Holds t s r → Gathers S P (entry S t s r) → Gathers S Q (entry S t s r)
     keep-gathers s r n h g = record {
       conjoined = λ σ. (λ a x q m. (g .conjoined σ) .0 a x (old x q m (f .fresh x q)) m, λ a. (g .conjoined σ) .1 (λ x p m. a x (f .more x p) m));
@@ -59,16 +54,16 @@ module _ (S : System) (m0 : S .Node) where
       where
         old : (x : Entry S) → Q x → At S (entry S t s r) x → P x ⊎ (v .node ≡ x .node) → P x
         old x q m (inl p) = p
-        old x q m (inr e) = absurd (f .apart s r n h (sym (m .0) ∙ sym e))
+        old x q m (inr e) = absurd (n (f .apart s r h (sym (m .0) ∙ sym e)))
 
     put-distinct : (a b : ℕ) (r q : Held S) → Holds u a r → Holds u b q → r .node ≡ q .node → a ≡ b
     put-distinct a b r q h k = put-each (f .put) (λ a r. (b : ℕ) (q : Held S) → Holds u b q → r .node ≡ q .node → a ≡ b) at-new at-old a r h b q k
       where
         at-new : (b : ℕ) (q : Held S) → Holds u b q → v .node ≡ q .node → j ≡ b
-        at-new = put-each (f .put) (λ b q. v .node ≡ q .node → j ≡ b) (λ e. refl) (λ s r n h e. absurd (f .apart s r n h (sym e)))
+        at-new = put-each (f .put) (λ b q. v .node ≡ q .node → j ≡ b) (λ e. refl) (λ s r n h e. sym (f .apart s r h (sym e)))
 
         at-old : (s : ℕ) (r : Held S) → (s ≡ j → ⊥) → Holds t s r → (b : ℕ) (q : Held S) → Holds u b q → r .node ≡ q .node → s ≡ b
-        at-old s r n h = put-each (f .put) (λ b q. r .node ≡ q .node → s ≡ b) (λ e. absurd (f .apart s r n h e)) (λ b q m k e. inv .distinct s b r q h k e)
+        at-old s r n h = put-each (f .put) (λ b q. r .node ≡ q .node → s ≡ b) (λ e. f .apart s r h e) (λ b q m k e. inv .distinct s b r q h k e)
 
     put-begun : (r : Held S) × Holds u 0 r × Begins S m0 r
     put-begun = go (ℕ-discrete 0 j)
@@ -106,7 +101,7 @@ module _ (S : System) (m0 : S .Node) where
       begun = put-begun;
       linked = put-each (f .put) (λ s r. (s ≡ 0 → ⊥) → Linked S u r) (λ n. keep-linked v (f .linked n)) (λ s r m h n. keep-linked r (inv .linked s r h n));
       gathers = put-each (f .put) (λ s r. (s ≡ 0 → ⊥) → Gathers S Q (entry S u s r)) (f .gathers)
-      (λ s r m h n. subst (Gathers S Q) (sym (same-entry s r m h)) (keep-gathers s r m h (inv .gathers s r h n)));
+      (λ s r m h n. subst (Gathers S Q) (sym (entry-keeps S inv u (f .keeps) s r h (f .put .old s m ∙ h))) (keep-gathers s r m h (inv .gathers s r h n)));
       proper = put-each (f .put) (λ s r. S .Proper (r .hints)) (f .proper) (λ s r m h. inv .proper s r h);
       low = put-low;
       order = put-order;

@@ -13,7 +13,7 @@ use Rattle.model.specs.exploration.Explore.{Entry}
 use Rattle.model.proofs.exploration.Arrivals.{To}
 use Rattle.dijkstra.specs.Records.{Held, Table, pathOf}
 use Rattle.dijkstra.proofs.Slots.{Holds, holds-one, Put, put-each}
-use Rattle.dijkstra.proofs.Invariant.{entry, Sent, Inv, Keeps, path-keeps}
+use Rattle.dijkstra.proofs.Invariant.{entry, Sent, Inv, Keeps, entry-keeps}
 
 module _ (S : System) where
   -- the arrivals made: from slot i by the actions below c, from the others by all
@@ -47,9 +47,7 @@ module _ (S : System) where
   module _ {m0 : S .Node} {t : Table S} {P : Entry S → Type 0} (inv : Inv S m0 t P) (u : Table S) (keeps : Keeps S t u) where
     -- A taken record is the same entry in both.
     pub same-entry : (s : ℕ) (r : Held S) → r .taken ≡ true → Holds t s r → entry S u s r ≡ entry S t s r
-    same-entry s r y h =
-        let p : pathOf S u (r .key .steps) s ≡ pathOf S t (r .key .steps) s = path-keeps S inv u keeps (r .key .steps) s r r h (keeps s r y h) refl refl refl in
-        λ i. record { node = r .node; key = r .key; hints = r .hints; path = p i }
+    same-entry s r y h = entry-keeps S inv u keeps s r h (keeps s r y h)
 
     unfoldable pub sent-on : (x : Entry S) → Sent S t x → Sent S u x
     sent-on x z = record {

@@ -49,7 +49,7 @@ module _ (S : System) where
     taken-inv Q to back = put-inv S m0 inv (record {
       put = put;
       keeps = keeps;
-      apart = λ s p k h e. k (inv .distinct s i p r h held e);
+      apart = λ s p h e. inv .distinct s i p r h held e;
       node = λ p h. ap (λ (z : Held S). z .node) (is-r p h);
       begins = begins;
       linked = λ k. let l = inv .linked i r held k in record {
