@@ -1,24 +1,21 @@
 -- One arrival: what it makes of the table, at a new node, with a lesser key, with the same key, or with a larger one.
 use mathlib.Core.Path.{_≡_, refl, sym, ap, _∙_, subst}
-use Prim.Native.Nat.{ℕ, zero, suc, _≤_, _<_}
-use native.Mathlib.Omega.{arith}
-use native.Mathlib.Decide.{ℕ-discrete}
-use mathlib.Core.Bool.{Bool, true, false, _&&_, true≢false}
+use Prim.Native.Nat.{ℕ, suc, _<_}
+use mathlib.Core.Bool.{true, false, _&&_, true≢false}
 use mathlib.Core.Option.{some}
 use mathlib.Core.List.{List, [], _∷_, _++_}
 use mathlib.Core.Logic.{_⊎_, inl, inr}
-use Rattle.model.specs.exploration.Key.{Key, zeroKey, extend, Le, Lt, First}
+use Rattle.model.specs.exploration.Key.{Key, Le, Lt, First}
 use Rattle.model.specs.exploration.System.{System}
 use Rattle.model.specs.exploration.Explore.{Entry}
-use Rattle.model.proofs.exploration.KeyLaws.{le-refl, le-trans, lt-le, le-lt-trans, not-below, extend-lt, extend-not-zero, first-trans}
+use Rattle.model.proofs.exploration.KeyLaws.{le-refl, lt-le, le-lt-trans, not-below, extend-lt, first-trans}
 use Rattle.model.proofs.exploration.Laws.{Laws}
-use Rattle.model.proofs.exploration.Arrivals.{To}
 use Rattle.model.proofs.exploration.Gather.{At}
 use Rattle.dijkstra.specs.Records.{Held, Table, pathOf}
 use Rattle.dijkstra.proofs.Both.{and-split, and-join}
-use Rattle.dijkstra.proofs.Slots.{Holds, holds-one, Put, put-each}
-use Rattle.dijkstra.proofs.Invariant.{entry, Linked, Sent, Gathers, Inv, Keeps, linked-steps, path-suc, entry-keeps, inv-more}
-use Rattle.dijkstra.proofs.Kept.{Fits, put-inv}
+use Rattle.dijkstra.proofs.Slots.{Holds, Put}
+use Rattle.dijkstra.proofs.Invariant.{entry, Linked, Gathers, Inv, Keeps, linked-steps, path-suc, entry-keeps, inv-more}
+use Rattle.dijkstra.proofs.Kept.{put-inv}
 use Rattle.dijkstra.proofs.Sending.{Before, Expanding, put-keeps, put-back, arrival, before-old, before-new, before-cases}
 
 module _ (S : System) (laws : Laws S) {m0 : S .Node} {t : Table S} {i : ℕ} {q : Held S} {c : ℕ} (x : Expanding S m0 t i q c) (b : c < S .actions)

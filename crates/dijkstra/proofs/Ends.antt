@@ -1,17 +1,16 @@
 -- The other ends of a search: nothing is open, or the table is full.
 use mathlib.Core.Path.{_≡_, refl, sym, ap, _∙_, subst}
-use Prim.Native.Nat.{ℕ, zero, suc, _≤_, _<_}
+use Prim.Native.Nat.{ℕ, zero, suc, _<_}
 use native.Mathlib.Omega.{arith}
 use mathlib.Core.Bool.{Bool, true, false, true≢false}
-use mathlib.Core.Option.{none, some}
+use mathlib.Core.Option.{some}
 use mathlib.Core.List.{List, [], _∷_, map}
-use mathlib.Core.Logic.{_⊎_, inl, inr}
 use lib.ListN.{length, length-map}
-use Rattle.model.specs.exploration.Key.{Key, zeroKey, extend, Le, Lt}
+use Rattle.model.specs.exploration.Key.{Key, zeroKey, extend, Le}
 use Rattle.model.specs.exploration.System.{System}
-use Rattle.model.specs.exploration.Equations.{Bound, up-to, unbounded, no-plan, Entries, Starts, Arrives, Explores, NoGoal, some-cut, none-cut}
+use Rattle.model.specs.exploration.Equations.{up-to, unbounded, Entries, Starts, Explores, NoGoal, some-cut, none-cut}
 use Rattle.model.specs.exploration.Explore.{Entry, reached, solve}
-use Rattle.model.proofs.exploration.KeyLaws.{le-refl, le-trans, not-below, extend-lt}
+use Rattle.model.proofs.exploration.KeyLaws.{le-trans, not-below, extend-lt}
 use Rattle.model.proofs.exploration.Laws.{Laws, Finite}
 use Rattle.model.proofs.exploration.Each.{All}
 use Rattle.model.proofs.exploration.Counting.{Apart}
@@ -22,8 +21,8 @@ use Rattle.dijkstra.specs.Records.{Held, Table}
 use Rattle.dijkstra.specs.Search.{someCutIn, exhausted}
 use Rattle.dijkstra.proofs.Slots.{Holds, holds-one, all-held}
 use Rattle.dijkstra.proofs.Finding.{some-cut-in, none-cut-in}
-use Rattle.dijkstra.proofs.Invariant.{Linked, Sent, Inv}
-use Rattle.dijkstra.proofs.Sending.{Before, Expanding}
+use Rattle.dijkstra.proofs.Invariant.{Sent, Inv}
+use Rattle.dijkstra.proofs.Sending.{Before}
 use Rattle.dijkstra.proofs.Following.{Crowded}
 use Rattle.dijkstra.proofs.Solution.{Up, up-solves}
 

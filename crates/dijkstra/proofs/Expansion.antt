@@ -5,9 +5,8 @@ use native.Mathlib.Omega.{arith}
 use native.Mathlib.Decide.{ℕ-discrete}
 use mathlib.Core.Bool.{Bool, true, false, true≢false}
 use mathlib.Core.Option.{Option, none, some}
-use mathlib.Core.List.{List, [], _∷_, _++_}
 use mathlib.Core.Logic.{_⊎_, inl, inr}
-use lib.ListN.{length, getElem?, set}
+use lib.ListN.{length, set}
 use lib.Dec.{ltb}
 use borrow.Author.Tests.{ltb-true, ltb-false}
 use Rattle.model.specs.exploration.Key.{Key, extend, Le, Lt, less, sameKey}
@@ -19,10 +18,10 @@ use Rattle.dijkstra.specs.Records.{Held, Table, find, take-it}
 use Rattle.dijkstra.specs.Search.{Filled, goes-on, full, relaxed, arrive, follow, expand}
 use Rattle.dijkstra.proofs.Slots.{Holds, holds-one}
 use Rattle.dijkstra.proofs.Finding.{find-none, find-some}
-use Rattle.dijkstra.proofs.Invariant.{Sent, Inv, Keeps, inv-map}
+use Rattle.dijkstra.proofs.Invariant.{Sent, Keeps, inv-map}
 use Rattle.dijkstra.proofs.Sending.{Before, Expanding}
 use Rattle.dijkstra.proofs.Arriving.{above-taken}
-use Rattle.dijkstra.proofs.Following.{Crowded, Went, new-went, less-went, larger-went, tied-went, newcomer}
+use Rattle.dijkstra.proofs.Following.{Went, new-went, less-went, larger-went, tied-went, newcomer}
 
 module _ (S : System) (laws : Laws S) (slots : ℕ) where
   module _ {m0 : S .Node} {t : Table S} {i : ℕ} {q : Held S} {c : ℕ} (x : Expanding S m0 t i q c) (b : c < S .actions) where

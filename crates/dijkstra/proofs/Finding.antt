@@ -1,17 +1,16 @@
 -- What is found in a table: the slot of a node, the first open slot of the least key, a cut node, and the number of taken slots.
 use mathlib.Core.Path.{_≡_, refl, sym, ap, _∙_, subst}
-use Prim.Native.Nat.{ℕ, zero, suc, _+_, _≤_, _<_}
+use Prim.Native.Nat.{ℕ, zero, suc, _+_}
 use native.Mathlib.Omega.{arith}
 use mathlib.Core.Bool.{Bool, true, false, true≢false}
 use mathlib.Core.Option.{Option, none, some}
-use mathlib.Core.List.{List, [], _∷_}
-use lib.ListN.{length, getElem?, set}
-use Rattle.model.specs.exploration.Key.{Key, Le, less}
+use mathlib.Core.List.{[], _∷_}
+use Rattle.model.specs.exploration.Key.{Le, less}
 use Rattle.model.specs.exploration.System.{System}
 use Rattle.model.proofs.exploration.KeyLaws.{le-refl, le-trans, lt-le, less-yes, less-no}
-use Rattle.dijkstra.specs.Records.{Held, Open, Table, find, leastOpen, take-it}
+use Rattle.dijkstra.specs.Records.{Held, Open, Table, find, leastOpen}
 use Rattle.dijkstra.specs.Search.{someCutIn}
-use Rattle.dijkstra.proofs.Slots.{Holds, holds-lt}
+use Rattle.dijkstra.proofs.Slots.{Holds}
 
 module _ (S : System) where
   -- ---- the slot of a node

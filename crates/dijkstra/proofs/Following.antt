@@ -1,23 +1,20 @@
 -- One action from a slot that leads to a node: what becomes of the table, where it goes on.
 use mathlib.Core.Path.{_≡_, refl, sym, ap, _∙_, subst}
-use Prim.Native.Nat.{ℕ, zero, suc, _≤_, _<_}
+use Prim.Native.Nat.{ℕ, suc, _≤_, _<_}
 use native.Mathlib.Omega.{arith}
 use mathlib.Core.Bool.{Bool, true, false, true≢false}
-use mathlib.Core.Option.{Option, none, some}
+use mathlib.Core.Option.{some}
 use mathlib.Core.List.{List, [], _∷_, _++_}
-use mathlib.Core.Logic.{_⊎_, inl, inr}
-use lib.ListN.{length, length-append, length-set, getElem?, set}
-use lib.Dec.{ltb}
-use borrow.Author.Tests.{ltb-true, ltb-false}
-use Rattle.model.specs.exploration.Key.{Key, zeroKey, extend, Le, Lt, less, sameKey, earlier, First}
+use mathlib.Core.Logic.{inl, inr}
+use lib.ListN.{length, length-append, length-set, set}
+use Rattle.model.specs.exploration.Key.{Key, zeroKey, extend, Le, Lt, earlier, First}
 use Rattle.model.specs.exploration.System.{System}
 use Rattle.model.specs.exploration.Explore.{Entry}
-use Rattle.model.proofs.exploration.KeyLaws.{le-refl, le-trans, lt-le, le-lt-trans, le-antisym, lt-or-le, not-below, extend-lt, less-yes, less-no, same-key, same-key-refl, first-total}
+use Rattle.model.proofs.exploration.KeyLaws.{le-refl, lt-le, extend-lt, first-total}
 use Rattle.model.proofs.exploration.Laws.{Laws}
-use Rattle.dijkstra.specs.Records.{Held, Table, find, take-it, pathOf}
-use Rattle.dijkstra.specs.Search.{Filled, goes-on, full, pathBy, tied, relaxed, arrive, follow, expand}
+use Rattle.dijkstra.specs.Records.{Held, Table, pathOf}
+use Rattle.dijkstra.specs.Search.{Filled, goes-on, full, pathBy, tied}
 use Rattle.dijkstra.proofs.Slots.{Holds, holds-one, holds-lt, Put, put-set, put-append, set-held}
-use Rattle.dijkstra.proofs.Finding.{find-none, find-some}
 use Rattle.dijkstra.proofs.Invariant.{entry, Linked, Inv, Keeps, linked-steps, path-suc, path-length, low-at}
 use Rattle.dijkstra.proofs.Sending.{Before, Expanding, put-keeps, put-back, arrival}
 use Rattle.dijkstra.proofs.Arriving.{larger-inv, Change, placed, placed-path, alone, together}

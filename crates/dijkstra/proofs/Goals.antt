@@ -1,12 +1,12 @@
 -- The first path among the uncut goal nodes of a key.
 use mathlib.Core.Path.{_≡_, refl, sym, ap, _∙_, subst}
-use Prim.Native.Nat.{ℕ, zero, suc, _+_, _≤_, _<_}
+use Prim.Native.Nat.{ℕ, zero, suc, _+_}
 use native.Mathlib.Omega.{arith}
 use mathlib.Core.Bool.{Bool, true, false, not, _&&_, true≢false}
 use mathlib.Core.Option.{Option, none, some}
 use mathlib.Core.List.{List, [], _∷_}
-use mathlib.Core.Logic.{_⊎_, inl, inr}
-use lib.ListN.{length, getElem?}
+use mathlib.Core.Logic.{inl}
+use lib.ListN.{length}
 use borrow.Author.Tests.{not-true}
 use Rattle.model.specs.exploration.Key.{Key, sameKey, firstOf, First}
 use Rattle.model.specs.exploration.System.{System}

@@ -1,16 +1,15 @@
 -- One slot put anew keeps the invariant, if the new record fits.
-use mathlib.Core.Path.{_≡_, refl, sym, ap, _∙_, subst}
-use Prim.Native.Nat.{ℕ, zero, suc}
+use mathlib.Core.Path.{_≡_, refl, sym, _∙_, subst}
+use Prim.Native.Nat.{ℕ}
 use native.Mathlib.Decide.{ℕ-discrete}
 use mathlib.Core.Bool.{true, false, true≢false}
-use mathlib.Core.List.{List, [], _∷_, _++_}
 use mathlib.Core.Logic.{_⊎_, inl, inr}
-use Rattle.model.specs.exploration.Key.{Key, Le, First}
+use Rattle.model.specs.exploration.Key.{Le}
 use Rattle.model.specs.exploration.System.{System}
 use Rattle.model.specs.exploration.Explore.{Entry}
 use Rattle.model.proofs.exploration.Gather.{At}
-use Rattle.dijkstra.specs.Records.{Held, Table, pathOf}
-use Rattle.dijkstra.proofs.Slots.{Holds, holds-one, Put, put-each}
+use Rattle.dijkstra.specs.Records.{Held, Table}
+use Rattle.dijkstra.proofs.Slots.{Holds, Put, put-each}
 use Rattle.dijkstra.proofs.Invariant.{entry, Linked, Sent, Gathers, Begins, Inv, Keeps, entry-keeps}
 
 module _ (S : System) (m0 : S .Node) where

@@ -1,16 +1,16 @@
 -- A goal found at the least open key is the answer.
 use mathlib.Core.Path.{_≡_, refl, sym, ap, _∙_, subst}
-use Prim.Native.Nat.{ℕ, zero, suc, _≤_, _<_}
+use Prim.Native.Nat.{ℕ, zero, suc}
 use native.Mathlib.Omega.{arith}
-use mathlib.Core.Bool.{Bool, true, false, true≢false}
+use mathlib.Core.Bool.{Bool, true, false}
 use mathlib.Core.Option.{some}
 use mathlib.Core.List.{List, [], _∷_, _++_}
-use mathlib.Core.Logic.{_⊎_, inl, inr}
+use mathlib.Core.Logic.{inl}
 use lib.ListN.{length}
 use Rattle.model.specs.exploration.Key.{Key, zeroKey, extend, Le, Lt, First}
 use Rattle.model.specs.exploration.System.{System}
-use Rattle.model.specs.exploration.Equations.{up-to, Within, plan, Entries, Starts, Arrives, Explores, Uncut, Path, begin, onward, Plan}
-use Rattle.model.specs.exploration.Explore.{Entry, solve}
+use Rattle.model.specs.exploration.Equations.{up-to, plan, Entries, Starts, Arrives, Explores, Uncut, Path, begin, onward, Plan}
+use Rattle.model.specs.exploration.Explore.{solve}
 use Rattle.model.proofs.exploration.KeyLaws.{le-refl, le-trans, lt-le, extend-lt, extend-not-zero, first-trans, first-snoc}
 use Rattle.model.proofs.exploration.Laws.{Laws, Finite}
 use Rattle.model.proofs.exploration.Paths.{path-end, path-steps, path-cast}
@@ -19,7 +19,7 @@ use Rattle.dijkstra.specs.Records.{Held, Table, pathOf}
 use Rattle.dijkstra.specs.Search.{firstGoal}
 use Rattle.dijkstra.proofs.Slots.{Holds, holds-one}
 use Rattle.dijkstra.proofs.Goals.{AtGoal, goal-some}
-use Rattle.dijkstra.proofs.Invariant.{entry, Linked, Sent, Inv, linked-steps, path-suc, start-steps, steps-linked, zero-slot, path-length, sized}
+use Rattle.dijkstra.proofs.Invariant.{entry, Sent, Inv, linked-steps, path-suc, steps-linked, zero-slot, path-length, sized}
 use Rattle.dijkstra.proofs.Solution.{Up, as-sent, as-sent-key, was-made, start-node, up-solves}
 
 module _ (S : System) {m0 : S .Node} (starts : Starts S m0) {t : Table S} (inv : Inv S m0 t (Sent S t)) (k : Key)

@@ -4,18 +4,18 @@ use Prim.Native.Nat.{ℕ, zero, suc, _+_, _≤_, _<_}
 use native.Mathlib.Omega.{arith}
 use mathlib.Core.Bool.{Bool, true, false}
 use mathlib.Core.Option.{Option, none, some}
-use mathlib.Core.List.{List, [], _∷_}
+use mathlib.Core.List.{List}
 use mathlib.Core.Logic.{_⊎_, inl, inr}
-use lib.ListN.{length, getElem?}
+use lib.ListN.{length}
 use lib.Dec.{ltb}
 use borrow.Author.Tests.{ltb-true, ltb-false}
 use Rattle.model.specs.exploration.System.{System}
-use Rattle.model.specs.exploration.Equations.{plan, no-plan, Starts}
+use Rattle.model.specs.exploration.Equations.{no-plan, Starts}
 use Rattle.model.specs.exploration.Explore.{reached, answer, solve}
 use Rattle.model.proofs.exploration.Laws.{Laws, Finite}
 use Rattle.model.proofs.exploration.Fuel.{reached-none}
 use Rattle.dijkstra.specs.Records.{Held, Open, Table, leastOpen, take-it, mark}
-use Rattle.dijkstra.specs.Search.{Result, answered, too-small, Filled, goes-on, full, expand, firstGoal, exhausted, turns, startTable, searchIn}
+use Rattle.dijkstra.specs.Search.{Result, answered, too-small, Filled, goes-on, full, expand, firstGoal, turns, startTable, searchIn}
 use Rattle.dijkstra.proofs.Slots.{Holds}
 use Rattle.dijkstra.proofs.Finding.{least-none, least-some}
 use Rattle.dijkstra.proofs.Invariant.{Sent, Inv}

@@ -1,17 +1,16 @@
 -- A slot being expanded: which arrivals have been made, and how one more action changes them.
-use mathlib.Core.Path.{_≡_, refl, sym, ap, _∙_, subst}
-use Prim.Native.Nat.{ℕ, zero, suc, _≤_, _<_}
+use mathlib.Core.Path.{_≡_, sym, ap, _∙_, subst}
+use Prim.Native.Nat.{ℕ, suc, _<_}
 use native.Mathlib.Omega.{arith}
 use native.Mathlib.Decide.{ℕ-discrete}
 use mathlib.Core.Bool.{true, false, true≢false}
 use mathlib.Core.Option.{some}
-use mathlib.Core.List.{List, [], _∷_, _++_}
 use mathlib.Core.Logic.{_⊎_, inl, inr}
-use Rattle.model.specs.exploration.Key.{Key, extend, Le, Lt}
+use Rattle.model.specs.exploration.Key.{Le}
 use Rattle.model.specs.exploration.System.{System}
 use Rattle.model.specs.exploration.Explore.{Entry}
 use Rattle.model.proofs.exploration.Arrivals.{To}
-use Rattle.dijkstra.specs.Records.{Held, Table, pathOf}
+use Rattle.dijkstra.specs.Records.{Held, Table}
 use Rattle.dijkstra.proofs.Slots.{Holds, holds-one, Put, put-each}
 use Rattle.dijkstra.proofs.Invariant.{entry, Sent, Inv, Keeps, entry-keeps}
 

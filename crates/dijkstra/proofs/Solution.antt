@@ -1,8 +1,8 @@
 -- The records of a table up to a key solve the equations of exploration up to it.
 use mathlib.Core.Path.{_≡_, refl, sym, ap, _∙_, subst}
-use Prim.Native.Nat.{ℕ, zero, suc, _≤_, _<_}
+use Prim.Native.Nat.{ℕ, zero, suc}
 use native.Mathlib.Omega.{arith}
-use mathlib.Core.Bool.{Bool, true, false, true≢false}
+use mathlib.Core.Bool.{Bool, true, false}
 use mathlib.Core.Option.{some}
 use mathlib.Core.Logic.{_⊎_, inl, inr, _↔_}
 use Rattle.model.specs.exploration.Key.{Key, zeroKey, extend, Le, Lt}
@@ -12,7 +12,6 @@ use Rattle.model.specs.exploration.Explore.{Entry}
 use Rattle.model.proofs.exploration.KeyLaws.{le-trans, lt-le, le-lt-trans, not-below, lt-or-le, extend-lt}
 use Rattle.model.proofs.exploration.Uniqueness.{within-below, arrives-lt}
 use Rattle.model.proofs.exploration.Arrivals.{To}
-use Rattle.model.proofs.exploration.Gather.{At}
 use Rattle.dijkstra.specs.Records.{Held, Table}
 use Rattle.dijkstra.proofs.Slots.{Holds, holds-one}
 use Rattle.dijkstra.proofs.Invariant.{entry, Linked, Sent, Gathers, Inv, low-at}

@@ -1,12 +1,11 @@
 -- The least open slot is taken: the invariant holds on, and an uncut slot's expansion begins.
 use mathlib.Core.Path.{_≡_, refl, sym, ap, _∙_, subst}
-use Prim.Native.Nat.{ℕ, zero, suc, _≤_, _<_}
+use Prim.Native.Nat.{ℕ}
 use native.Mathlib.Omega.{arith}
-use mathlib.Core.Bool.{Bool, true, false, true≢false}
-use mathlib.Core.List.{List}
-use mathlib.Core.Logic.{_⊎_, inl, inr}
-use lib.ListN.{length, set}
-use Rattle.model.specs.exploration.Key.{Key, Le}
+use mathlib.Core.Bool.{true, false, true≢false}
+use mathlib.Core.Logic.{inl}
+use lib.ListN.{set}
+use Rattle.model.specs.exploration.Key.{Le}
 use Rattle.model.specs.exploration.System.{System}
 use Rattle.model.specs.exploration.Explore.{Entry}
 use Rattle.model.proofs.exploration.KeyLaws.{le-refl}

@@ -1,15 +1,12 @@
 -- One turn of the search: it begins with the start table, and takes the least open slot.
 use mathlib.Core.Path.{_≡_, refl, sym, ap, _∙_, subst}
-use Prim.Native.Nat.{ℕ, zero, suc, _≤_, _<_}
+use Prim.Native.Nat.{ℕ, zero, suc}
 use native.Mathlib.Omega.{arith}
-use mathlib.Core.Bool.{Bool, true, false, true≢false}
+use mathlib.Core.Bool.{true, false, true≢false}
 use mathlib.Core.Option.{none, some}
-use mathlib.Core.List.{List, [], _∷_}
 use lib.ListN.{length, length-set, set}
 use Rattle.model.specs.exploration.Key.{Key, zeroKey, Le}
 use Rattle.model.specs.exploration.System.{System}
-use Rattle.model.specs.exploration.Equations.{Starts}
-use Rattle.model.specs.exploration.Explore.{Entry}
 use Rattle.model.proofs.exploration.Laws.{Laws}
 use Rattle.dijkstra.specs.Records.{Held, Open, Table, leastOpen, take-it, mark}
 use Rattle.dijkstra.specs.Search.{firstGoal, startTable}
