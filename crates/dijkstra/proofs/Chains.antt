@@ -113,8 +113,10 @@ module _ (S : System) {m0 : S .Node} {t : Table S} {P : Entry S → Type 0} (inv
   pub chains : (n i j : ℕ) (r q : Held S) → Holds t i r → Holds t j q → r .key .steps ≡ suc n → q .key .steps ≡ suc n
       → (r .parent ≡ q .parent → earlier (pathOf S t (suc n) i) (pathOf S t (suc n) j) ≡ ltb (r .action) (q .action))
       × ((r .parent ≡ q .parent → ⊥) → earlier (pathOf S t (suc n) i) (pathOf S t (suc n) j) ≡ earlier (pathOf S t n (r .parent)) (pathOf S t n (q .parent)))
-  chains n i j r q h k e f = (λ d. whole ∙ same-chain n (r .parent) (q .parent) (a .source) (b .source) (a .held) (b .held) a-steps b-steps (r .action) (q .action) d,
-      λ d. whole ∙ other-chain n (r .parent) (q .parent) (a .source) (b .source) (a .held) (b .held) a-steps b-steps (r .action) (q .action) d)
+  chains n i j r q h k e f = (
+    λ d. whole ∙ same-chain n (r .parent) (q .parent) (a .source) (b .source) (a .held) (b .held) a-steps b-steps (r .action) (q .action) d,
+    λ d. whole ∙ other-chain n (r .parent) (q .parent) (a .source) (b .source) (a .held) (b .held) a-steps b-steps (r .action) (q .action) d,
+  )
     where
       a : Linked S t r
       a = steps-linked S inv i r h e

@@ -34,7 +34,6 @@ module _ (S : System) (laws : Laws S) (fin : Finite S) {m0 : S .Node} (starts : 
   unfolding exhausted
   exhausted-right {t} inv taken = go (someCutIn S t) refl
     where
-
       solves : Explores S unbounded (Up S t unbounded)
       solves = up-solves S starts inv unbounded (λ i r h o. absurd (true≢false (sym (taken i r h) ∙ o))) (λ x z w. z)
 
@@ -102,10 +101,13 @@ module _ (S : System) (laws : Laws S) where
 
       -- Arrivals of keys up to that of slot i are from other slots, so they were made.
       made : (z : Entry S) → Sent S t z → Le (z .key) (q .key) → Before S t i (x .action) z
-      made z s l = (s, λ e.
-          let p : s .source ≡ q = holds-one t i (subst (λ (k : ℕ). Holds t k (s .source)) e (s .held)) (x .expanding .held) in
-          let d : z .key ≡ extend (q .key) (S .cost (s .action)) = ap (λ (w : Entry S). w .key) (s .is) ∙ ap (λ (r : Held S). extend (r .key) (S .cost (s .action))) p in
-          absurd (not-below (q .key) _ (extend-lt (q .key) (S .cost (s .action))) (subst (λ (k : Key). Le k (q .key)) d l)))
+      made z s l = (
+        s,
+        λ e.
+            let p : s .source ≡ q = holds-one t i (subst (λ (k : ℕ). Holds t k (s .source)) e (s .held)) (x .expanding .held) in
+            let d : z .key ≡ extend (q .key) (S .cost (s .action)) = ap (λ (w : Entry S). w .key) (s .is) ∙ ap (λ (r : Held S). extend (r .key) (S .cost (s .action))) p in
+            absurd (not-below (q .key) _ (extend-lt (q .key) (S .cost (s .action))) (subst (λ (k : Key). Le k (q .key)) d l)),
+      )
 
       solves : Explores S (up-to (q .key)) (Up S t (up-to (q .key)))
       solves = up-solves S starts (x .expanding .inv) (up-to (q .key))
@@ -146,6 +148,6 @@ module _ (S : System) (laws : Laws S) where
       crowded =
           let e = x .expanding in
           let l = reached-at-least S laws (x .node ∷ nodes t)
-              (all-of-map _ (λ (r : Held S). r .node) t (all-held _ t (x .new)), apart-nodes t (e .inv .distinct))
-              (next-reached i q (e .held) (e .taken) (e .uncut) (x .action) (x .inRange) (x .leads), all-of-map _ (λ (r : Held S). r .node) t (all-held _ t each-reached)) in
+          (all-of-map _ (λ (r : Held S). r .node) t (all-held _ t (x .new)), apart-nodes t (e .inv .distinct))
+          (next-reached i q (e .held) (e .taken) (e .uncut) (x .action) (x .inRange) (x .leads), all-of-map _ (λ (r : Held S). r .node) t (all-held _ t each-reached)) in
           omega (arith, length-map t (λ (r : Held S). r .node), x .noRoom)

@@ -80,7 +80,7 @@ module _ (S : System) (laws : Laws S) (slots : ℕ) where
           known : {j : ℕ} → find S n t 0 ≡ some j → (r : Held S) → Holds t j r → n ≡ r .node → Went S laws slots m0 t i q (suc c) (arrive S slots t n (extend (q .key) (S .cost c)) (S .carry (q .hints) n c) i c)
           known {j} f r p e =
               rw (f, arrive, p) (subst (λ (z : S .Node). Went S laws slots m0 t i q (suc c) (goes-on (set t j (relaxed S t r (extend (q .key) (S .cost c)) (S .carry (q .hints) z c) i c)))) (sym e)
-                  (relaxed-went j r p (leads ∙ ap some e)))
+              (relaxed-went j r p (leads ∙ ap some e)))
 
           go : (o : Option ℕ) → find S n t 0 ≡ o → Went S laws slots m0 t i q (suc c) (arrive S slots t n (extend (q .key) (S .cost c)) (S .carry (q .hints) n c) i c)
           go none f = room (ltb (length t) slots) refl f

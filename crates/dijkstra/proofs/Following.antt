@@ -173,8 +173,8 @@ module _ (S : System) (laws : Laws S) (slots : ℕ) where
                 } in
                 let e = placed-path S laws x b leads ch in
                 placed S laws x b leads ch (λ z k d. subst (λ (w : Key). Le w (z .key)) same (low-at S (x .inv) j r held z k d))
-                    (together S laws x b leads ch r (x .inv .gathers j r held far) refl refl refl
-                        (subst (λ (z : List ℕ). First z (entry S t j r .path)) (sym e) f) (subst (λ (z : List ℕ). First z (y .path)) (sym e) g))
+                (together S laws x b leads ch r (x .inv .gathers j r held far) refl refl refl
+                (subst (λ (z : List ℕ). First z (entry S t j r .path)) (sym e) f) (subst (λ (z : List ℕ). First z (y .path)) (sym e) g))
 
         old-link : Linked S t r
         old-link = x .inv .linked j r held far

@@ -100,7 +100,7 @@ module _ (S : System) (m0 : S .Node) where
       begun = put-begun;
       linked = put-each (f .put) (λ s r. (s ≡ 0 → ⊥) → Linked S u r) (λ n. keep-linked v (f .linked n)) (λ s r m h n. keep-linked r (inv .linked s r h n));
       gathers = put-each (f .put) (λ s r. (s ≡ 0 → ⊥) → Gathers S Q (entry S u s r)) (f .gathers)
-      (λ s r m h n. subst (Gathers S Q) (sym (entry-keeps S inv u (f .keeps) s r h (f .put .old s m ∙ h))) (keep-gathers s r m h (inv .gathers s r h n)));
+          (λ s r m h n. subst (Gathers S Q) (sym (entry-keeps S inv u (f .keeps) s r h (f .put .old s m ∙ h))) (keep-gathers s r m h (inv .gathers s r h n)));
       proper = put-each (f .put) (λ s r. S .Proper (r .hints)) (f .proper) (λ s r m h. inv .proper s r h);
       low = put-low;
       order = put-order;

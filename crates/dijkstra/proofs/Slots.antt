@@ -21,11 +21,6 @@ module _ {A : Type 0} where
   holds-lt (x ∷ t) zero p = omega arith
   holds-lt (x ∷ t) (suc i) p = omega (arith, holds-lt t i p)
 
-  pub lt-holds : (t : List A) (i : ℕ) → i < length t → (r : A) × Holds t i r
-  lt-holds [] i l = absurd (omega arith)
-  lt-holds (x ∷ t) zero l = (x, refl)
-  lt-holds (x ∷ t) (suc i) l = lt-holds t i (omega arith)
-
   -- What every slot's content has, all of the table have.
   pub all-held : (P : A → Type 0) (t : List A) → ((i : ℕ) (r : A) → Holds t i r → P r) → All P t
   all-held P [] f = tt
