@@ -22,7 +22,7 @@ use Rattle.dijkstra.specs.Search.{someCutIn, exhausted}
 use Rattle.dijkstra.proofs.Slots.{Holds, holds-one, all-held}
 use Rattle.dijkstra.proofs.Finding.{some-cut-in, none-cut-in}
 use Rattle.dijkstra.proofs.Invariant.{Sent, Inv}
-use Rattle.dijkstra.proofs.Sending.{Before}
+use Rattle.dijkstra.proofs.Sending.{Before, source-is}
 use Rattle.dijkstra.proofs.Following.{Crowded}
 use Rattle.dijkstra.proofs.Solution.{Up, up-solves}
 
@@ -104,7 +104,7 @@ module _ (S : System) (laws : Laws S) where
       made z s l = (
         s,
         λ e.
-            let p : s .source ≡ q = holds-one t i (subst (λ (k : ℕ). Holds t k (s .source)) e (s .held)) (x .expanding .held) in
+            let p : s .source ≡ q = source-is S (x .expanding) s e in
             let d : z .key ≡ extend (q .key) (S .cost (s .action)) = ap (λ (w : Entry S). w .key) (s .is) ∙ ap (λ (r : Held S). extend (r .key) (S .cost (s .action))) p in
             absurd (not-below (q .key) _ (extend-lt (q .key) (S .cost (s .action))) (subst (λ (k : Key). Le k (q .key)) d l)),
       )

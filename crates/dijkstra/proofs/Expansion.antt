@@ -16,16 +16,20 @@ use Rattle.model.proofs.exploration.KeyLaws.{le-antisym, lt-or-le, less-yes, le
 use Rattle.model.proofs.exploration.Laws.{Laws}
 use Rattle.dijkstra.specs.Records.{Held, Table, find, take-it}
 use Rattle.dijkstra.specs.Search.{Filled, goes-on, full, relaxed, arrive, follow, expand}
-use Rattle.dijkstra.proofs.Slots.{Holds, holds-one}
+use Rattle.dijkstra.proofs.Slots.{Holds}
 use Rattle.dijkstra.proofs.Finding.{find-none, find-some}
 use Rattle.dijkstra.proofs.Invariant.{Sent, Keeps, inv-map}
-use Rattle.dijkstra.proofs.Sending.{Before, Expanding}
+use Rattle.dijkstra.proofs.Sending.{Before, Expanding, source-is}
 use Rattle.dijkstra.proofs.Arriving.{above-taken}
 use Rattle.dijkstra.proofs.Following.{Went, new-went, less-went, larger-went, tied-went, newcomer}
 
 module _ (S : System) (laws : Laws S) (slots : ℕ) where
   module _ {m0 : S .Node} {t : Table S} {i : ℕ} {q : Held S} {c : ℕ} (x : Expanding S m0 t i q c) (b : c < S .actions) where
     -- ---- one action
+
+    -- what action c comes to
+    abbrev Goes : Filled S → Type 0
+    Goes f = Went S laws slots m0 t i q (suc c) f
 
     module _ (j : ℕ) (r : Held S) (held : Holds t j r) (leads : S .step (q .node) c ≡ some (r .node)) where
       abbrev k : Key
@@ -43,28 +47,31 @@ module _ (S : System) (laws : Laws S) (slots : ℕ) where
               let s : k ≡ r .key = le-antisym k (r .key) l (less-no k (r .key) e) in
               absurd (true≢false (sym (subst (λ (z : Key). sameKey k z ≡ true) s (same-key-refl k)) ∙ f))
 
-      relaxed-went : Went S laws slots m0 t i q (suc c) (goes-on (set t j (relaxed S t r k h i c)))
+      relaxed-went : Goes (goes-on (set t j (relaxed S t r k h i c)))
       unfolding relaxed
       relaxed-went = go (r .taken) (less k (r .key)) (sameKey k (r .key)) refl refl refl
         where
-          to : (v : Held S) → relaxed S t r k h i c ≡ v → Went S laws slots m0 t i q (suc c) (goes-on (set t j v)) → Went S laws slots m0 t i q (suc c) (goes-on (set t j (relaxed S t r k h i c)))
-          to v e w = subst (λ (z : Held S). Went S laws slots m0 t i q (suc c) (goes-on (set t j z))) (sym e) w
+          to : (v : Held S) → relaxed S t r k h i c ≡ v → Goes (goes-on (set t j v)) → Goes (goes-on (set t j (relaxed S t r k h i c)))
+          to v e w = subst (λ (z : Held S). Goes (goes-on (set t j z))) (sym e) w
 
           kept : (a : Bool) → r .taken ≡ a → r ≡ record { node = r .node; key = r .key; hints = r .hints; parent = r .parent; action = r .action; taken = a }
           kept a e = λ d. record { node = r .node; key = r .key; hints = r .hints; parent = r .parent; action = r .action; taken = e d }
 
-          go : (a l s : Bool) → r .taken ≡ a → less k (r .key) ≡ l → sameKey k (r .key) ≡ s → Went S laws slots m0 t i q (suc c) (goes-on (set t j (relaxed S t r k h i c)))
+          go : (a l s : Bool) → r .taken ≡ a → less k (r .key) ≡ l → sameKey k (r .key) ≡ s → Goes (goes-on (set t j (relaxed S t r k h i c)))
           go true l s e f g = to r (rw (e, relaxed) (kept true e)) (larger-went S laws slots x b j r held leads (above-taken S laws x b leads j r held e))
           go false true s e f g = to (newcomer S laws slots x b leads) (rw (e, relaxed, f) refl) (less-went S laws slots x b j r held leads e (less-yes _ _ f))
           go false false true e f g = to _ (rw (e, relaxed, f, g) refl) (tied-went S laws slots x b j r held leads e (sym (same-key _ _ g)))
           go false false false e f g = to r (rw (e, relaxed, f, g) (kept false e)) (larger-went S laws slots x b j r held leads (larger f g))
 
     module _ {n : S .Node} (leads : S .step (q .node) c ≡ some n) where
-      arrive-went : Went S laws slots m0 t i q (suc c) (arrive S slots t n (extend (q .key) (S .cost c)) (S .carry (q .hints) n c) i c)
+      abbrev arrival-at : Filled S
+      arrival-at = arrive S slots t n (extend (q .key) (S .cost c)) (S .carry (q .hints) n c) i c
+
+      arrive-went : Goes arrival-at
       unfolding arrive
       arrive-went = go (find S n t 0) refl
         where
-          room : (a : Bool) → ltb (length t) slots ≡ a → find S n t 0 ≡ none → Went S laws slots m0 t i q (suc c) (arrive S slots t n (extend (q .key) (S .cost c)) (S .carry (q .hints) n c) i c)
+          room : (a : Bool) → ltb (length t) slots ≡ a → find S n t 0 ≡ none → Goes arrival-at
           room true e f = rw (f, arrive, e) (new-went S laws slots x b leads (find-none S n t f) (ltb-true _ _ e))
           room false e f = rw (f, arrive, e) (record {
             table = t;
@@ -77,41 +84,38 @@ module _ (S : System) (laws : Laws S) (slots : ℕ) where
             new = find-none S n t f;
           })
 
-          known : {j : ℕ} → find S n t 0 ≡ some j → (r : Held S) → Holds t j r → n ≡ r .node → Went S laws slots m0 t i q (suc c) (arrive S slots t n (extend (q .key) (S .cost c)) (S .carry (q .hints) n c) i c)
+          known : {j : ℕ} → find S n t 0 ≡ some j → (r : Held S) → Holds t j r → n ≡ r .node → Goes arrival-at
           known {j} f r p e =
-              rw (f, arrive, p) (subst (λ (z : S .Node). Went S laws slots m0 t i q (suc c) (goes-on (set t j (relaxed S t r (extend (q .key) (S .cost c)) (S .carry (q .hints) z c) i c)))) (sym e)
+              rw (f, arrive, p) (subst (λ (z : S .Node). Goes (goes-on (set t j (relaxed S t r (extend (q .key) (S .cost c)) (S .carry (q .hints) z c) i c)))) (sym e)
               (relaxed-went j r p (leads ∙ ap some e)))
 
-          go : (o : Option ℕ) → find S n t 0 ≡ o → Went S laws slots m0 t i q (suc c) (arrive S slots t n (extend (q .key) (S .cost c)) (S .carry (q .hints) n c) i c)
+          go : (o : Option ℕ) → find S n t 0 ≡ o → Goes arrival-at
           go none f = room (ltb (length t) slots) refl f
           go (some j) f = let r = find-some S n t f in known f (r .0) (r .1) (laws .same-eq _ _ (r .2))
 
-    follow-went : Went S laws slots m0 t i q (suc c) (follow S slots t q i c)
+    -- An action that leads nowhere makes no arrival.
+    stays : S .step (q .node) c ≡ none → Expanding S m0 t i q (suc c)
+    stays e = record {
+      inv = inv-map S (x .inv) (Before S t i (suc c)) (λ z k. (k .0, λ s. omega (arith, k .1 s))) (λ z k. (k .0, λ s. not-last z (k .0) s (k .1 s) (ℕ-discrete (k .0 .action) c)));
+      held = x .held;
+      taken = x .taken;
+      uncut = x .uncut;
+      top = x .top;
+    }
+      where
+        not-last : (z : Entry S) (k : Sent S t z) → k .slot ≡ i → k .action < suc c → Dec (k .action ≡ c) → k .action < c
+        not-last z k s l (yes d) =
+            let p : k .source ≡ q = source-is S x k s in
+            let f : S .step (q .node) c ≡ some (z .node) = sym (λ w. S .step (p w .node) (d w)) ∙ k .leads in
+            let o : _≡_ {A = ℕ} 0 1 = cc in
+            absurd (omega arith)
+        not-last z k s l (no d) = omega arith
+
+    follow-went : Goes (follow S slots t q i c)
     unfolding follow
     follow-went = go (S .step (q .node) c) refl
       where
-        -- an action that leads nowhere makes no arrival
-        stays : S .step (q .node) c ≡ none → Expanding S m0 t i q (suc c)
-        stays e = record {
-          inv = inv-map S (x .inv) (Before S t i (suc c)) (λ z k. (k .0, λ s. omega (arith, k .1 s))) (λ z k. (k .0, λ s. not-last z (k .0) s (k .1 s)));
-          held = x .held;
-          taken = x .taken;
-          uncut = x .uncut;
-          top = x .top;
-        }
-          where
-            not-last : (z : Entry S) (k : Sent S t z) → k .slot ≡ i → k .action < suc c → k .action < c
-            not-last z k s l = by (ℕ-discrete (k .action) c)
-              where
-                by : Dec (k .action ≡ c) → k .action < c
-                by (yes d) =
-                    let p : k .source ≡ q = holds-one t i (subst (λ (w : ℕ). Holds t w (k .source)) s (k .held)) (x .held) in
-                    let f : S .step (q .node) c ≡ some (z .node) = subst (λ (r : Held S). S .step (r .node) c ≡ some (z .node)) p (subst (λ (a : ℕ). S .step (k .source .node) a ≡ some (z .node)) d (k .leads)) in
-                    let o : _≡_ {A = ℕ} 0 1 = cc in
-                    absurd (omega arith)
-                by (no d) = omega arith
-
-        go : (o : Option (S .Node)) → S .step (q .node) c ≡ o → Went S laws slots m0 t i q (suc c) (follow S slots t q i c)
+        go : (o : Option (S .Node)) → S .step (q .node) c ≡ o → Goes (follow S slots t q i c)
         go none e = rw (e, follow) (stays e, (λ s r k h. h), λ l. l)
         go (some n) e = rw (e, follow) (arrive-went e)
 

@@ -15,7 +15,7 @@ use Rattle.model.proofs.exploration.Laws.{Laws}
 use Rattle.dijkstra.specs.Records.{Held, Table, pathOf}
 use Rattle.dijkstra.specs.Search.{Filled, goes-on, full, pathBy, tied}
 use Rattle.dijkstra.proofs.Slots.{Holds, holds-one, holds-lt, Put, put-set, put-append, set-held}
-use Rattle.dijkstra.proofs.Invariant.{entry, Linked, Inv, Keeps, linked-steps, path-suc, path-length, low-at}
+use Rattle.dijkstra.proofs.Invariant.{entry, Linked, Inv, Keeps, linked-steps, path-suc, pathBy-suc, path-length, low-at}
 use Rattle.dijkstra.proofs.Sending.{Before, Expanding, put-keeps, put-back, arrival}
 use Rattle.dijkstra.proofs.Arriving.{larger-inv, Change, placed, placed-path, alone, together}
 
@@ -183,10 +183,6 @@ module _ (S : System) (laws : Laws S) (slots : ℕ) where
         unfolding extend
         steps = ap (λ (k : Key). k .steps) same
 
-        by-path : (n p a : ℕ) → r .key .steps ≡ suc n → pathBy S t (r .key .steps) p a ≡ pathOf S t n p ++ (a ∷ [])
-        unfolding pathBy
-        by-path n p a e = ap (λ (m : ℕ). pathBy S t m p a) e
-
         own-path : (n : ℕ) → r .key .steps ≡ suc n → entry S t j r .path ≡ pathOf S t n (r .parent) ++ (r .action ∷ [])
         own-path n e = ap (λ (m : ℕ). pathOf S t m j) e ∙ path-suc S t n j held
 
@@ -201,10 +197,10 @@ module _ (S : System) (laws : Laws S) (slots : ℕ) where
         tied-went = go (earlier (pathBy S t (r .key .steps) i c) (pathBy S t (r .key .steps) (r .parent) (r .action))) refl
           where
             new-is : pathBy S t (r .key .steps) i c ≡ y .path
-            new-is = by-path (q .key .steps) i c steps
+            new-is = pathBy-suc S t (q .key .steps) i c steps
 
             old-is : pathBy S t (r .key .steps) (r .parent) (r .action) ≡ entry S t j r .path
-            old-is = by-path (q .key .steps) (r .parent) (r .action) steps ∙ sym (own-path (q .key .steps) steps)
+            old-is = pathBy-suc S t (q .key .steps) (r .parent) (r .action) steps ∙ sym (own-path (q .key .steps) steps)
 
             order : (a : Bool) → earlier (pathBy S t (r .key .steps) i c) (pathBy S t (r .key .steps) (r .parent) (r .action)) ≡ a → earlier (y .path) (entry S t j r .path) ≡ a
             order a e = (λ d. earlier (sym new-is d) (sym old-is d)) ∙ e

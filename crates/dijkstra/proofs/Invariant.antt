@@ -14,6 +14,7 @@ use Rattle.model.proofs.exploration.KeyLaws.{le-refl, lt-le, not-below}
 use Rattle.model.proofs.exploration.Arrivals.{To}
 use Rattle.model.proofs.exploration.Gather.{At}
 use Rattle.dijkstra.specs.Records.{Held, Table, pathOf}
+use Rattle.dijkstra.specs.Search.{pathBy}
 use Rattle.dijkstra.proofs.Slots.{Holds, holds-one}
 
 module _ (S : System) where
@@ -81,6 +82,11 @@ module _ (S : System) where
   pub path-suc : (t : Table S) (n i : ℕ) {r : Held S} → Holds t i r → pathOf S t (suc n) i ≡ pathOf S t n (r .parent) ++ (r .action ∷ [])
   unfolding pathOf
   path-suc t n i h = rw (h, pathOf) refl
+
+  -- So does one that goes by a slot and on by an action.
+  pub pathBy-suc : (t : Table S) (n i a : ℕ) {m : ℕ} → m ≡ suc n → pathBy S t m i a ≡ pathOf S t n i ++ (a ∷ [])
+  unfolding pathBy
+  pathBy-suc t n i a e = ap (λ (m : ℕ). pathBy S t m i a) e
 
   module _ {m0 : S .Node} {t : Table S} {P : Entry S → Type 0} (inv : Inv m0 t P) where
     -- Slot 0 alone has a key of no steps.

@@ -74,6 +74,10 @@ module _ (S : System) where
       is = z .is ∙ ap (λ (e : Entry S). To S e (x .node) (z .action)) (same-entry (z .slot) (z .source) (z .taken) h);
     }
 
+  -- An arrival from slot i is from the record that is being expanded.
+  pub source-is : {m0 : S .Node} {t : Table S} {i : ℕ} {q : Held S} {c : ℕ} → Expanding m0 t i q c → {y : Entry S} (z : Sent S t y) → z .slot ≡ i → z .source ≡ q
+  source-is {t = t} {i = i} x z e = holds-one t i (subst (λ (k : ℕ). Holds t k (z .source)) e (z .held)) (x .held)
+
   -- ---- one action more
 
   module _ {m0 : S .Node} {t : Table S} {i : ℕ} {q : Held S} {c : ℕ} (x : Expanding m0 t i q c) (b : c < S .actions) {n : S .Node} (leads : S .step (q .node) c ≡ some n) where
@@ -114,7 +118,7 @@ module _ (S : System) where
           go (no e) d = inl (w, λ f. absurd (e f))
           go (yes e) (no d) = inl (w, λ f. omega (arith, z .1 e))
           go (yes e) (yes d) =
-              let s : z .0 .source ≡ q = holds-one t i (subst (λ (k : ℕ). Holds t k (z .0 .source)) e (w .held)) (x .held) in
-              let l : S .step (q .node) c ≡ some (y .node) = subst (λ (r : Held S). S .step (r .node) c ≡ some (y .node)) s (subst (λ (a : ℕ). S .step (z .0 .source .node) a ≡ some (y .node)) d (z .0 .leads)) in
+              let s : z .0 .source ≡ q = source-is x w e in
+              let l : S .step (q .node) c ≡ some (y .node) = sym (λ k. S .step (s k .node) (d k)) ∙ z .0 .leads in
               let m : y .node ≡ n = cc in
               inr (w .is ∙ (λ k. To S (entry S t (e k) (s k)) (m k) (d k)))
