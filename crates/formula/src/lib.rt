@@ -85,7 +85,7 @@ pub fn is_next(o: Unary) -> bool
 }
 
 // Whether the formula that begins with a code is a carried part where it stands.
-fn is_part(code: Code, under: bool) -> bool
+pub fn is_part(code: Code, under: bool) -> bool
     ensures { λ r. ⌜ r ≡ under || carries code ⌝ }
 {
     if under { true } else { is_carried(code) }

@@ -1,0 +1,8 @@
+-- What the proofs of the evaluator use.
+pub mod Bits
+pub mod Nodes
+pub mod Numbers
+pub mod Walks
+pub mod Upwards
+pub mod Settings
+pub mod Answers

@@ -1,0 +1,3 @@
+pub mod Node
+pub mod Walk
+pub mod Residual

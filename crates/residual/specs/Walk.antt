@@ -1,0 +1,82 @@
+-- The walk over a formula's bytes: the numbers of its carried parts, and the tables that it leaves. `under` says that a formula is the operand
+-- of a next, n is the number of the next carried part.
+use Prim.Native.Nat.{ℕ, suc, _≤_}
+use mathlib.Core.Bool.{Bool, true, false, _||_}
+use mathlib.Core.List.{List}
+use lib.ListN.{set}
+use Rattle.model.specs.declared.Unary.{Unary}
+use Rattle.model.specs.declared.Binary.{Binary}
+use Rattle.model.specs.logic.Formula.{Formula, constant, fact, action, unary, binary}
+use Rattle.model.specs.logic.Reading.{Parsed, formula, wrong}
+use Rattle.model.specs.logic.Parts.{temporal, temporal1, temporal2}
+use Rattle.model.specs.logic.Truth.{World}
+use Rattle.bits.specs.Tables.{everywhere}
+use Rattle.formula.specs.Extent.{isNext}
+use Rattle.residual.specs.declared.Value.{Value}
+use Rattle.residual.specs.Node.{ofNothing1, ofNothing2, tableOf, aheadTable, table1, table2}
+
+-- where a formula's own numbers start: behind it, if it is a part only as the operand of a next
+abbrev pub starts : Bool → Bool → ℕ → ℕ
+starts false carried n = n
+starts true true n = n
+starts true false n = suc n
+
+-- the number behind a formula's own
+abbrev pub after : Bool → ℕ → ℕ
+after true n = suc n
+after false n = n
+
+abbrev pub put : Bool → ℕ → ℕ → List ℕ → List ℕ
+put true n x t = set t n x
+put false n x t = t
+
+-- the number of the first part behind a formula
+unfoldable pub behind : Formula → Bool → ℕ → ℕ
+behind (constant c) under n = starts under false n
+behind (fact i) under n = starts under false n
+behind (action a) under n = starts under false n
+behind (unary o φ) under n = behind φ (isNext o) (after (temporal1 o) (starts under (temporal1 o) n))
+behind (binary o φ ψ) under n = behind ψ false (behind φ false (after (temporal2 o) (starts under (temporal2 o) n)))
+
+-- the tables behind a formula, where t are those before it: each part's table is put in its place
+module _ (closing : Bool) (w : World) where
+  unfoldable pub filled : Formula → Bool → ℕ → List ℕ → List ℕ
+  unfolding behind tableOf
+  filled (constant c) under n t = put (under || false) n (tableOf closing w (constant c) (starts under false n)) t
+  filled (fact i) under n t = put (under || false) n (tableOf closing w (fact i) (starts under false n)) t
+  filled (action a) under n t = put (under || false) n (tableOf closing w (action a) (starts under false n)) t
+  filled (unary o φ) under n t =
+      let own = starts under (temporal1 o) n in
+      put (under || temporal1 o) n (tableOf closing w (unary o φ) own) (filled φ (isNext o) (after (temporal1 o) own) t)
+  filled (binary o φ ψ) under n t =
+      let own = starts under (temporal2 o) n in
+      put (under || temporal2 o) n (tableOf closing w (binary o φ ψ) own)
+      (filled ψ false (behind φ false (after (temporal2 o) own)) (filled φ false (after (temporal2 o) own) t))
+
+  -- what the walk answers at a position, and the tables that it leaves
+  unfoldable pub evaluated : Parsed → Bool → ℕ → Value
+  unfolding temporal behind tableOf
+  evaluated (formula φ n) under i = record { table = tableOf closing w φ (starts under (temporal φ) i); next = n; parts = behind φ under i }
+  evaluated (wrong p) under i = record { table = 0; next = p; parts = i }
+
+  unfoldable pub filledBy : Parsed → Bool → ℕ → List ℕ → List ℕ
+  unfolding filled
+  filledBy (formula φ n) under i t = filled φ under i t
+  filledBy (wrong p) under i t = t
+
+-- a formula was read, and its carried parts are among the six
+abbrev pub Few : Parsed → Bool → ℕ → Type 0
+Few (formula φ n) under i = behind φ under i ≤ 6
+Few (wrong p) under i = ⊥
+
+-- ---- what the code makes of the operands' values
+abbrev pub leaf : Bool → ℕ → ℕ → Value
+leaf t n i = record { table = everywhere 6 t; next = n; parts = i }
+
+abbrev pub one : Bool → Unary → ℕ → Value → Value
+one closing o own p =
+    record { table = table1 o (p .table) (aheadTable closing (ofNothing1 o) own); next = p .next; parts = p .parts }
+
+abbrev pub two : Bool → Binary → ℕ → Value → Value → Value
+two closing o own p q =
+    record { table = table2 o (p .table) (q .table) (aheadTable closing (ofNothing2 o) own); next = q .next; parts = q .parts }
