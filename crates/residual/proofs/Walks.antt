@@ -40,6 +40,7 @@ module _ (closing : Bool) (w : World) where
     abbrev pub Kept : Bool → Value → List ℕ → Value → List ℕ → Type 0
     Kept part v x′ r x = (r ≡ v) × (x ≡ put part i (v .table) x′)
 
+    -- it answers, if v is the formula's value and its table goes in where the walk's does
     kept-answers : (carried part : Bool) → part ≡ under || carried → (p : Parsed) (v : Value) → v ≡ evaluated closing w p under i
         → (x′ : List ℕ) → put (under || carried) i (evaluated closing w p under i .table) x′ ≡ filledBy closing w p under i t
         → (r : Value) (x : List ℕ) → Kept part v x′ r x → Answered p r x
