@@ -1,0 +1,5 @@
+-- What the proofs of the nodes use, and the laws for their callers.
+pub mod Fields
+pub mod Same
+pub mod Arrivals
+pub mod Hints
