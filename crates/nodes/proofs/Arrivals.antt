@@ -1,32 +1,30 @@
 -- Which node the start is, and which node an action leads to.
 use mathlib.Core.Path.{_≡_, refl, sym, ap, _∙_}
+use mathlib.Core.Bool.{Bool, true, false, not}
+use mathlib.Core.Option.{Option, none, some}
+use mathlib.Core.List.{List, _∷_}
 use Prim.Native.Nat.{ℕ, zero, suc, _+_, _-_, _≤_}
 use native.Mathlib.Omega.{arith}
-use mathlib.Core.Bool.{Bool, true, false, not}
-use mathlib.Core.Option.{none, some}
-use mathlib.Core.List.{List, [], _∷_}
 use lib.ListN.{length, take, drop, getD, replicate, length-drop, replicate-append-replicate, length-replicate}
-use lib.Seq.{length-take-le}
 use Rattle.model.specs.job.Job.{Action, Job, actionOf}
 use Rattle.model.specs.task.State.{within, applicable, after}
 use Rattle.model.specs.search.Node.{Node, progressedAll, closingAll, someDead}
 use Rattle.model.specs.search.JobSystem.{alive, nextNode, isGoal}
-use Rattle.model.proofs.job.ResidualLists.{length-progressedAll}
 use Rattle.progression.specs.Padded.{padded}
 use Rattle.progression.proofs.Padding.{take-padded}
 use Rattle.nodes.specs.declared.Reached.{Reached}
-use Rattle.nodes.proofs.Fields.{length-left}
 use Rattle.nodes.specs.Meaning.{nodeIs, Clean, reachedIs, Made, Leads}
+use Rattle.nodes.proofs.Fields.{length-left}
 
 -- ---- what an answer says
 
-pub reached-some : (n : ℕ) (r : Reached) → r .alive ≡ true → reachedIs n r ≡ some (nodeIs n (r .node))
+pub leads-some : {n : ℕ} {to : Option Node} {r : Reached} → Leads n to r → r .alive ≡ true → to ≡ some (nodeIs n (r .node))
 unfolding reachedIs
-reached-some n r e = rw (e, reachedIs)
+leads-some l e = sym (l .leads) ∙ rw (e, reachedIs)
 
-pub reached-none : (n : ℕ) (r : Reached) → r .alive ≡ false → reachedIs n r ≡ none
+pub leads-none : {n : ℕ} {to : Option Node} {r : Reached} → Leads n to r → r .alive ≡ false → to ≡ none
 unfolding reachedIs
-reached-none n r e = rw (e, reachedIs)
+leads-none l e = sym (l .leads) ∙ rw (e, reachedIs)
 
 -- ---- making a node
 

@@ -1,9 +1,8 @@
--- What is read of an accepted job, and arrays that are written out.
-use mathlib.Core.Path.{_≡_, refl, sym, ap, _∙_}
-use Prim.Native.Nat.{ℕ, zero, suc, _≤_, _<_}
-use native.Mathlib.Omega.{arith}
-use mathlib.Core.List.{List, [], _∷_}
-use lib.ListN.{length, take, drop, getD}
+-- What is read of an accepted job.
+use mathlib.Core.Path.{_≡_, sym, _∙_}
+use mathlib.Core.List.{List}
+use Prim.Native.Nat.{ℕ, _≤_, _<_}
+use lib.ListN.{length, take}
 use lib.Seq.{length-take-le}
 use Rattle.model.specs.logic.Formula.{Formula}
 use Rattle.model.specs.logic.Truth.{World}
@@ -13,10 +12,13 @@ use Rattle.model.specs.search.Node.{progressedAll}
 use Rattle.model.proofs.job.ResidualLists.{length-progressedAll}
 use Rattle.model.proofs.job.VerdictLaws.{length-listOf}
 use Rattle.job.proofs.Accepted.{action-of}
-use Rattle.progression.proofs.Padding.{row}
 
--- There are as many formulas as the head says.
+-- There are as many actions and formulas as the head says.
 module _ (bytes : List ℕ) where
+  pub length-actions : length (jobOf bytes .actions) ≡ actionCount bytes
+  unfolding jobOf
+  length-actions = length-listOf _ (actionCount bytes)
+
   pub length-constraints : length (jobOf bytes .constraints) ≡ constraintCount bytes
   unfolding jobOf
   length-constraints = length-listOf _ (constraintCount bytes)
@@ -37,16 +39,3 @@ module _ (bytes : List ℕ) {i k : ℕ} (e : k ≡ i) (l : i < actionCount bytes
 
   pub cost-read : {c : ℕ} → c ≡ actionAt bytes k .cost → c ≡ actionOf (jobOf bytes) i .cost
   cost-read c = rw (action-of bytes i l, ← e) c
-
--- A list is its entries in turn.
-pub row-all : (n : ℕ) (l : List ℕ) → length l ≡ n → row n (λ k. getD l k 0) ≡ l
-unfolding row
-row-all zero [] e = refl
-row-all zero (x ∷ l) e = absurd (omega arith)
-row-all (suc n) [] e = absurd (omega arith)
-row-all (suc n) (x ∷ l) e = ap (λ (k : List ℕ). x ∷ k) (row-all n l (omega arith))
-
--- The entries behind the first.
-pub row-behind : (n : ℕ) (l : List ℕ) → length l ≡ suc n → row n (λ k. getD l (suc k) 0) ≡ drop 1 l
-row-behind n [] e = absurd (omega arith)
-row-behind n (x ∷ l) e = row-all n l (omega arith)

@@ -1,8 +1,8 @@
 -- Laws of the arrays that hold the hints' residuals.
 use mathlib.Core.Path.{_≡_, sym, ap, ap₂, _∙_}
+use mathlib.Core.List.{List}
 use Prim.Native.Nat.{ℕ, _≤_}
 use native.Mathlib.Omega.{arith}
-use mathlib.Core.List.{List}
 use lib.ListN.{length, take, length-take}
 use Rattle.model.specs.search.Node.{meetAll}
 use Rattle.progression.specs.Padded.{padded}

@@ -1,4 +1,5 @@
 -- What the proofs of the nodes use, and the laws for their callers.
+pub mod Rows
 pub mod Fields
 pub mod Same
 pub mod Arrivals

@@ -1,11 +1,11 @@
 -- Two clean arrays are equal exactly if their nodes are.
 use mathlib.Core.Path.{_≡_, refl, ap, ap₂, _∙_}
-use Prim.Native.Nat.{ℕ, _-_, _≤_}
-use native.Mathlib.Omega.{arith}
 use mathlib.Core.Bool.{Bool, true, false}
 use mathlib.Core.List.{List, [], _∷_, _++_}
+use Prim.Native.Nat.{ℕ, _-_, _≤_}
+use native.Mathlib.Omega.{arith}
 use lib.Dec.{eqb}
-use lib.ListN.{length, take, drop, getD, replicate, length-take}
+use lib.ListN.{length, take, drop, replicate, length-take}
 use Rattle.model.specs.search.Node.{sameNumbers, sameNode}
 use Rattle.model.proofs.job.NodeLaws.{numbers-same}
 use Rattle.progression.specs.Padded.{padded}

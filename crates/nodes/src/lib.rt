@@ -6,15 +6,15 @@ use task::State;
 ghost use mathlib.Core.Path.{_≡_};
 ghost use mathlib.Core.List.{_∷_};
 ghost use Prim.Native.Nat.{_<_};
-ghost use lib.ListN.{take, drop};
+ghost use lib.ListN.{drop};
 ghost use Rattle.model.specs.declared.Verdict.the-variants.{Fine};
 ghost use Rattle.model.specs.job.Layout.{actionCount, constraintCount, hintCount, jobOf};
 ghost use Rattle.model.specs.job.Decoding.{jobVerdict};
 ghost use Rattle.model.specs.search.Node.{someDead};
-ghost use Rattle.model.specs.search.JobSystem.{alive, startNode, nextNode, isGoal, startHints, carryHints};
+ghost use Rattle.model.specs.search.JobSystem.{startNode, nextNode, isGoal, startHints, carryHints};
 ghost use Rattle.nodes.specs.Meaning.{nodeIs, hintsIs, Acts, Costs, Made, Leads, Carries};
 
-// What an action leads to. Where it leads nowhere, alive is false and the node means nothing.
+// What an action leads to. Where it leads nowhere, alive is false and the node, clean as any, means nothing.
 pub struct Reached {
     pub alive: bool,
     pub node: [u64; 9],
@@ -40,19 +40,36 @@ pub fn cost_of(job: &[u8], i: u8) -> u64
     access::action_cost(job, access::wide(i))
 }
 
+// A state in front of residuals.
 fn node_of(facts: u64, rs: [u64; 8]) -> [u64; 9]
     ensures { λ r. ⌜ r ≡ facts ∷ rs ⌝ }
 {
     [
-        facts, rs[0], rs[1], rs[2], rs[3], rs[4], rs[5], rs[6], rs[7],
+        facts,
+        rs[0],
+        rs[1],
+        rs[2],
+        rs[3],
+        rs[4],
+        rs[5],
+        rs[6],
+        rs[7],
     ]
 }
 
+// What stands behind the state.
 fn residuals_of(node: [u64; 9]) -> [u64; 8]
     ensures { λ r. ⌜ r ≡ drop 1 node ⌝ }
 {
     [
-        node[1], node[2], node[3], node[4], node[5], node[6], node[7], node[8],
+        node[1],
+        node[2],
+        node[3],
+        node[4],
+        node[5],
+        node[6],
+        node[7],
+        node[8],
     ]
 }
 
@@ -79,7 +96,8 @@ pub fn start(job: &[u8]) -> Reached
 // The node that action i leads to. The constraints see the state after the action.
 pub fn next(job: &[u8], node: [u64; 9], i: u8) -> Reached
     requires { ⌜ (jobVerdict (now job) ≡ Fine) × (i < actionCount (now job)) ⌝ }
-    ensures { λ r. ⌜ Leads (constraintCount (now (job .entry))) (nextNode (jobOf (now (job .entry))) (nodeIs (constraintCount (now (job .entry))) node) i) r ⌝ }
+    ensures { λ r. ⌜ Leads (constraintCount (now (job .entry)))
+        (nextNode (jobOf (now (job .entry))) (nodeIs (constraintCount (now (job .entry))) node) i) r ⌝ }
 {
     let action = action_of(job, i);
     let state = State { facts: node[0] };
@@ -90,7 +108,11 @@ pub fn next(job: &[u8], node: [u64; 9], i: u8) -> Reached
         };
     }
     let facts = state.after(action).facts;
-    unless_dead(job, facts, progression::constraints_next(job, residuals_of(node), facts, i))
+    unless_dead(
+        job,
+        facts,
+        progression::constraints_next(job, residuals_of(node), facts, i),
+    )
 }
 
 // Whether a path may end at a node: the goal is true, and so is each constraint's residual, of the closing world.

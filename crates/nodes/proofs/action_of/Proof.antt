@@ -1,25 +1,14 @@
-use Rattle.nodes.proofs.Fields.{length-constraints, length-hints, action-read, cost-read, row-all, row-behind}
-use Rattle.job.proofs.Bounds.{task-pair, task-inside, action-inside}
-use mathlib.Core.Path.{_≡_, refl, sym, ap, _∙_}
-use native.Mathlib.Omega.{arith}
-use Rattle.job.proofs.Accepted.{accepted-laid}
-use lib.ListN.{length}
+-- `action_of` reads an action's four numbers, whose bytes are there.
 use Prim.Native.Nat.{_+_, _≤_}
-use Rattle.model.specs.job.Layout.{actionOffset}
+use native.Mathlib.Omega.{arith}
+use lib.ListN.{length}
 use borrow.Author.Needs.{needs}
+use Rattle.model.specs.job.Layout.{actionOffset}
+use Rattle.job.proofs.Bounds.{task-pair, action-inside}
+use Rattle.job.proofs.Accepted.{accepted-laid}
+use Rattle.nodes.proofs.Fields.{action-read}
 use Rattle.nodes.proofs.action_of.Statement.{statement}
 use Rattle.nodes.proofs.action_of.Tie as tie
-use Rattle.nodes.proofs.action_of.Reads as reads
-use Rattle.nodes.proofs.action_of.Lts as lts
-use Rattle.job.proofs.access.action_add.Reads as action-add-reads
-use Rattle.job.proofs.access.action_cost.Reads as action-cost-reads
-use Rattle.job.proofs.access.action_del.Reads as action-del-reads
-use Rattle.job.proofs.access.action_pre.Reads as action-pre-reads
-use Rattle.job.proofs.access.wide.Reads as wide-reads
-
--- src/lib.rt:27:9
-wide-requires : tie.Need-wide-requires
-wide-requires c κs = search needs
 
 -- The action's bytes are there.
 inside : (c : tie.After-wide) → let b = c .before .before .args .job .now in
@@ -27,23 +16,19 @@ inside : (c : tie.After-wide) → let b = c .before .before .args .job .now in
 inside c = let l = accepted-laid _ (c .before .before .pre .0) in (task-pair l, action-inside l _ (omega arith))
 
 action-pre-requires : tie.Need-action-pre-requires
-action-pre-requires c κs = inside (c)
+action-pre-requires c κs = inside c
 
--- src/lib.rt:30:14
 action-add-requires : tie.Need-action-add-requires
 action-add-requires c κs = inside (c .before)
 
--- src/lib.rt:31:14
 action-del-requires : tie.Need-action-del-requires
 action-del-requires c κs = inside (c .before .before)
 
--- src/lib.rt:32:15
 action-cost-requires : tie.Need-action-cost-requires
 action-cost-requires c κs = inside (c .before .before .before)
 
--- src/lib.rt:23:1
 returns : tie.Need-returns
-returns c = 
+returns c =
     let d = c .before .before .before .before in
     let s = d .before .before in
     record {
@@ -56,7 +41,7 @@ pub action-of-spec : {M : Type 1} → statement M
 action-of-spec =
     tie.close
     (tie.spec
-    wide-requires
+    (λ c κs. search needs)
     action-pre-requires
     action-add-requires
     action-del-requires
