@@ -28,11 +28,12 @@ leads-none l e = sym (l .leads) ∙ rw (e, reachedIs)
 
 -- ---- making a node
 
--- A node is there unless a constraint is dead.
-pub made : (n s : ℕ) (rs t : List ℕ) (dead : Bool) → dead ≡ someDead (take n rs) → t ≡ s ∷ rs → Made n s rs (record { alive = not dead; node = t })
+-- A node is there unless one of so many constraints is dead.
+pub made : (n s : ℕ) (rs t : List ℕ) (dead : Bool) {count : ℕ} → count ≡ n → dead ≡ someDead (take count rs) → t ≡ s ∷ rs
+    → Made n s rs (record { alive = not dead; node = t })
 unfolding reachedIs alive nodeIs
-made n s rs t true e f = record { lives = rw (← e, alive); holds = f }
-made n s rs t false e f = record { lives = rw (← e, alive, f); holds = f }
+made n s rs t true k e f = let d = rw k at e in record { lives = rw (← d, alive); holds = f }
+made n s rs t false k e f = let d = rw k at e in record { lives = rw (← d, alive, f); holds = f }
 
 -- The residuals of all constraints and nothing else make a clean node.
 pub made-leads : {n s : ℕ} {rs : List ℕ} (l : List ℕ) {r : Reached} → rs ≡ padded l → length l ≡ n → Made n s rs r → Leads n (alive s l) r
@@ -50,7 +51,7 @@ take-zeros zero m l = refl
 take-zeros (suc n) zero l = absurd (omega arith)
 take-zeros (suc n) (suc m) l = ap (λ (x : List ℕ). 0 ∷ x) (take-zeros n m (omega arith))
 
-pub clean-zeros : (n : ℕ) → n ≤ 8 → Clean n (replicate 9 0)
+clean-zeros : (n : ℕ) → n ≤ 8 → Clean n (replicate 9 0)
 unfolding padded
 clean-zeros n l =
     let e : n + (8 - n) ≡ 8 = omega arith in
@@ -69,7 +70,9 @@ module _ (j : Job) (n : ℕ) (node : List ℕ) (i : ℕ) {a : Action} (act : a �
       → rs ≡ padded (progressedAll (j .constraints) (take n (drop 1 node)) (record { state = s; made = some i })) → Made n s rs r
       → length (j .constraints) ≡ n → n + 1 ≤ length node → Leads n (nextNode j (nodeIs n node) i) r
   unfolding nextNode nodeIs
-  next-leads {s} {rs} {r} e f g m k l = rw (rw act at e, nextNode, ← act, ← f) (made-leads _ g (length-left (j .constraints) n (drop 1 node) _ k (rw length-drop (omega arith))) m)
+  next-leads {s} {rs} {r} e f g m k l =
+      rw (rw act at e, nextNode, ← act, ← f)
+      (made-leads _ g (length-left (j .constraints) n (drop 1 node) _ k (rw length-drop (omega arith))) m)
 
 -- ---- the goal
 module _ (j : Job) (n : ℕ) (node : List ℕ) {g : ℕ} (goal : g ≡ j .goal) where

@@ -1,4 +1,4 @@
--- What is read of an accepted job.
+-- Counts and actions that are read of an accepted job.
 use mathlib.Core.Path.{_≡_, sym, _∙_}
 use mathlib.Core.List.{List}
 use Prim.Native.Nat.{ℕ, _≤_, _<_}

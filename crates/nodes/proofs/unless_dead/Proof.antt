@@ -18,7 +18,7 @@ returns : tie.Need-returns
 returns c =
     let s = c .before .before .before .before .before in
     let e : c .before .before .wide .result ≡ constraintCount (s .args .job .now) = omega arith in
-    made _ (s .args .facts) (s .args .rs) _ _ (rw e at (c .before .some-dead .ensures)) (c .node-of .ensures)
+    made _ (s .args .facts) (s .args .rs) _ _ e (c .before .some-dead .ensures) (c .node-of .ensures)
 
 pub unless-dead-spec : {M : Type 1} → statement M
 unless-dead-spec =
