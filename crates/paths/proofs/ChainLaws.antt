@@ -2,10 +2,11 @@
 use mathlib.Core.Path.{_≡_, refl, sym, ap, _∙_}
 use mathlib.Core.Logic.{_⊎_, inl, inr}
 use mathlib.Core.Bool.{Bool, true, false, true≢false}
-use mathlib.Core.List.{List, [], _∷_, _++_}
+use mathlib.Core.List.{List, [], _∷_, _++_, append-assoc}
 use Prim.Native.Nat.{ℕ, zero, suc, _+_, _<_}
 use native.Mathlib.Omega.{arith}
-use lib.ListN.{length, length-append}
+use lib.ListN.{length, drop, set, length-append}
+use lib.Seq.{drop-cons, getD-set-same, drop-set-lt, lt-length-set}
 use lib.Dec.{ltb, eqb}
 use borrow.Author.Tests.{ltb-true, lt-ltb, le-ltb, eq-eqb}
 use Rattle.model.specs.exploration.Key.{earlier}
@@ -13,7 +14,7 @@ use Rattle.model.proofs.exploration.KeyLaws.{earlier-irrefl, earlier-snoc}
 use Rattle.table.specs.declared.Slot.{Slot}
 use Rattle.table.specs.Slots.{slotAt}
 use Rattle.table.proofs.LookupLaws.{first-at}
-use Rattle.paths.specs.Chain.{held, parentAt, actionAt, stepsAt, slotPath, order, Chained, Level}
+use Rattle.paths.specs.Chain.{held, parentAt, actionAt, stepsAt, slotPath, order, orderBy, Chained, Level}
 
 -- ---- the parts of a held slot are those in the table
 
@@ -98,3 +99,28 @@ module _ (ss : List Slot) (n : ℕ) (ch : Chained ss) (l : length ss ≡ n) wher
 
   pub order-up : (i j p q : ℕ) → p ≡ parentAt ss i → q ≡ parentAt ss j → (p ≡ q → ⊥) → Level ss n i j → Instead ss n i j p q
   order-up i j p q ep eq d v = rw (ep, eq) (order-parents i j (λ e. d (ep ∙ e ∙ sym eq)) v)
+
+  -- ---- with one more action each
+
+  -- From one slot the actions decide,
+  pub order-same : (i j a b : ℕ) → i ≡ j → ltb a b ≡ orderBy ss i a j b
+  order-same i j a b d = sym (rw d (last-same (slotPath ss (stepsAt ss j) j) a b))
+
+  -- and from two the paths of these.
+  pub order-other : (i j a b : ℕ) → Level ss n i j → order ss i j ≡ orderBy ss i a j b
+  order-other i j a b v =
+      let k = stepsAt ss i in
+      sym (last-other (slotPath ss k i) (slotPath ss k j) a b (length-path ss k i ∙ sym (length-path ss k j)) (λ e. v .differ (ch .distinct i j k refl (sym (v .level)) e (omega arith) (omega arith))))
+
+-- ---- a path written from its end
+
+-- Storing the last action leaves one action less to write before what stands behind it.
+pub write-on : (ss : List Slot) (plan : List ℕ) (i k m a p : ℕ) → k ≡ suc m → a ≡ actionAt ss i → p ≡ parentAt ss i → m < length plan → slotPath ss k i ++ drop k plan ≡ slotPath ss m p ++ drop m (set plan m a)
+unfolding slotPath
+write-on ss plan i k m a p d ea ep h =
+    rw (d, ← ea, ← ep, append-assoc, drop-cons (set plan m a) m 0 (lt-length-set plan m a h), getD-set-same plan m a 0 h, drop-set-lt (suc m) plan m a (omega arith))
+
+-- When none is left, the plan is written.
+pub write-end : (ss : List Slot) (plan : List ℕ) (i k : ℕ) → k ≡ 0 → slotPath ss k i ++ drop k plan ≡ plan
+unfolding slotPath
+write-end ss plan i k d = rw d

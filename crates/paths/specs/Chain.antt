@@ -43,3 +43,7 @@ pub record Level (ss : List Slot) (n i j : ℕ) : Type 0 where
 -- whether the path of slot i comes before that of slot j, which has as many steps
 abbrev pub order : List Slot → ℕ → ℕ → Bool
 order ss i j = earlier (slotPath ss (stepsAt ss i) i) (slotPath ss (stepsAt ss i) j)
+
+-- the same of the path of slot i and on by action a, and that of slot j and on by b
+abbrev pub orderBy : List Slot → ℕ → ℕ → ℕ → ℕ → Bool
+orderBy ss i a j b = earlier (slotPath ss (stepsAt ss i) i ++ (a ∷ [])) (slotPath ss (stepsAt ss i) j ++ (b ∷ []))
