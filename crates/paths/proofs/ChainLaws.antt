@@ -1,14 +1,14 @@
--- Laws of paths: how long they are, and how two of them compare.
+-- Laws of paths: how long they are, how two of them compare, and how one is written.
 use mathlib.Core.Path.{_≡_, refl, sym, ap, _∙_}
 use mathlib.Core.Logic.{_⊎_, inl, inr}
 use mathlib.Core.Bool.{Bool, true, false, true≢false}
 use mathlib.Core.List.{List, [], _∷_, _++_, append-assoc}
-use Prim.Native.Nat.{ℕ, zero, suc, _+_, _<_}
+use Prim.Native.Nat.{ℕ, zero, suc, _<_}
 use native.Mathlib.Omega.{arith}
 use lib.ListN.{length, drop, set, length-append}
 use lib.Seq.{drop-cons, getD-set-same, drop-set-lt, lt-length-set}
-use lib.Dec.{ltb, eqb}
-use borrow.Author.Tests.{ltb-true, lt-ltb, le-ltb, eq-eqb}
+use lib.Dec.{ltb}
+use borrow.Author.Tests.{ltb-true, lt-ltb}
 use Rattle.model.specs.exploration.Key.{earlier}
 use Rattle.model.proofs.exploration.KeyLaws.{earlier-irrefl, earlier-snoc}
 use Rattle.table.specs.declared.Slot.{Slot}
@@ -28,11 +28,19 @@ module _ (t : List ℕ) (n i : ℕ) (h : i < n) where
   pub held-steps : slotAt t i .steps ≡ stepsAt (held t n) i
   held-steps = ap (λ (s : Slot). s .steps) (sym (first-at t n i h))
 
+-- ---- one path
+
 -- A path has as many actions as are asked for.
 pub length-path : (ss : List Slot) (n i : ℕ) → length (slotPath ss n i) ≡ n
 unfolding slotPath
 length-path ss zero i = refl
 length-path ss (suc n) i = length-append (slotPath ss n (parentAt ss i)) (actionAt ss i ∷ []) ∙ omega (arith, length-path ss n (parentAt ss i))
+
+-- Slots with the same parents and actions have the same paths.
+pub path-same : (ss rr : List Slot) → ((i : ℕ) → parentAt ss i ≡ parentAt rr i) → ((i : ℕ) → actionAt ss i ≡ actionAt rr i) → (n i : ℕ) → slotPath ss n i ≡ slotPath rr n i
+unfolding slotPath
+path-same ss rr p a zero i = refl
+path-same ss rr p a (suc n) i = rw (p i, a i, path-same ss rr p a n (parentAt rr i))
 
 -- ---- the order of two sequences with one more action each
 
@@ -60,57 +68,56 @@ last-other p q a b e d = same-truth _ _ (λ h. to ((earlier-snoc p q a b e) .0 h
 
 -- ---- two slots with equally many steps
 
+-- From one slot and on, the actions decide.
+pub order-same : (ss : List Slot) (i j a b : ℕ) → i ≡ j → ltb a b ≡ orderBy ss i a j b
+order-same ss i j a b d = sym (rw d (last-same (slotPath ss (stepsAt ss j) j) a b))
+
+-- The order of two slots is that of their parents and on, if these are one step nearer.
+order-last : (ss : List Slot) (i j : ℕ) → stepsAt ss i ≡ suc (stepsAt ss (parentAt ss i))
+    → order ss i j ≡ orderBy ss (parentAt ss i) (actionAt ss i) (parentAt ss j) (actionAt ss j)
+unfolding slotPath
+order-last ss i j e = ap (λ (k : ℕ). earlier (slotPath ss k i) (slotPath ss k j)) e
+
 -- The slots p and q are compared in place of i and j, and have fewer steps.
 abbrev pub Instead : List Slot → ℕ → ℕ → ℕ → ℕ → ℕ → Type 0
 Instead ss n i j p q = Level ss n p q × (order ss i j ≡ order ss p q) × (stepsAt ss p < stepsAt ss i)
 
 module _ (ss : List Slot) (n : ℕ) (ch : Chained ss) (l : length ss ≡ n) where
-  -- Being different, they have some.
-  some-steps : (i j : ℕ) → Level ss n i j → (m : ℕ) × (stepsAt ss i ≡ suc m)
+  -- Being different, not both are the first slot of all: they have parents, which are one step nearer.
+  parents : (i j : ℕ) → Level ss n i j
+      → (stepsAt ss i ≡ suc (stepsAt ss (parentAt ss i))) × (stepsAt ss j ≡ suc (stepsAt ss (parentAt ss j))) × (parentAt ss i < n) × (parentAt ss j < n)
   unfolding slotPath
-  some-steps i j v = go (stepsAt ss i) refl
+  parents i j v = go (stepsAt ss i) refl
     where
-      go : (k : ℕ) → stepsAt ss i ≡ k → (m : ℕ) × (stepsAt ss i ≡ suc m)
+      go : (k : ℕ) → stepsAt ss i ≡ k
+          → (stepsAt ss i ≡ suc (stepsAt ss (parentAt ss i))) × (stepsAt ss j ≡ suc (stepsAt ss (parentAt ss j))) × (parentAt ss i < n) × (parentAt ss j < n)
       go zero e = absurd (v .differ (ch .distinct i j 0 e (sym (v .level) ∙ e) refl (omega arith) (omega arith)))
-      go (suc m) e = (m, e)
+      go (suc m) e =
+          let a = ch .inside i m e (omega arith) in
+          let b = ch .inside j m (sym (v .level) ∙ e) (omega arith) in
+          (e ∙ ap suc (sym (a .1)), sym (v .level) ∙ e ∙ ap suc (sym (b .1)), omega arith, omega arith)
 
-  -- Their order is that of their parents with the last actions.
-  order-last : (i j m : ℕ) → stepsAt ss i ≡ suc m → order ss i j ≡ earlier (slotPath ss m (parentAt ss i) ++ (actionAt ss i ∷ [])) (slotPath ss m (parentAt ss j) ++ (actionAt ss j ∷ []))
-  unfolding slotPath
-  order-last i j m e = ap (λ (k : ℕ). earlier (slotPath ss k i) (slotPath ss k j)) e
-
-  -- If their parents are one, the last actions decide.
-  pub order-action : (i j a b p q : ℕ) → a ≡ actionAt ss i → b ≡ actionAt ss j → p ≡ parentAt ss i → q ≡ parentAt ss j → p ≡ q → Level ss n i j → ltb a b ≡ order ss i j
-  order-action i j a b p q ea eb ep eq d v =
-      let s = some-steps i j v in
-      sym (order-last i j (s .0) (s .1) ∙ rw (← ea, ← eb, ← ep, ← eq, d) (last-same (slotPath ss (s .0) q) a b))
-
-  -- If not, their parents do.
-  order-parents : (i j : ℕ) → (parentAt ss i ≡ parentAt ss j → ⊥) → Level ss n i j → Instead ss n i j (parentAt ss i) (parentAt ss j)
-  order-parents i j d v =
-      let s = some-steps i j v in
-      let a = ch .inside i (s .0) (s .1) (omega arith) in
-      let b = ch .inside j (s .0) (sym (v .level) ∙ s .1) (omega arith) in
-      (record { first = omega arith; second = omega arith; differ = d; level = a .1 ∙ sym (b .1) },
-        order-last i j (s .0) (s .1)
-          ∙ last-other (slotPath ss (s .0) (parentAt ss i)) (slotPath ss (s .0) (parentAt ss j)) (actionAt ss i) (actionAt ss j) (length-path ss (s .0) (parentAt ss i) ∙ sym (length-path ss (s .0) (parentAt ss j))) (λ e. d (ch .distinct (parentAt ss i) (parentAt ss j) (s .0) (a .1) (b .1) e (a .0) (b .0)))
-          ∙ sym (ap (λ (k : ℕ). earlier (slotPath ss k (parentAt ss i)) (slotPath ss k (parentAt ss j))) (a .1)),
-        omega (arith, a .1, s .1))
-
-  pub order-up : (i j p q : ℕ) → p ≡ parentAt ss i → q ≡ parentAt ss j → (p ≡ q → ⊥) → Level ss n i j → Instead ss n i j p q
-  order-up i j p q ep eq d v = rw (ep, eq) (order-parents i j (λ e. d (ep ∙ e ∙ sym eq)) v)
-
-  -- ---- with one more action each
-
-  -- From one slot the actions decide,
-  pub order-same : (i j a b : ℕ) → i ≡ j → ltb a b ≡ orderBy ss i a j b
-  order-same i j a b d = sym (rw d (last-same (slotPath ss (stepsAt ss j) j) a b))
-
-  -- and from two the paths of these.
+  -- From two such slots and on, their own order decides.
   pub order-other : (i j a b : ℕ) → Level ss n i j → order ss i j ≡ orderBy ss i a j b
   order-other i j a b v =
       let k = stepsAt ss i in
-      sym (last-other (slotPath ss k i) (slotPath ss k j) a b (length-path ss k i ∙ sym (length-path ss k j)) (λ e. v .differ (ch .distinct i j k refl (sym (v .level)) e (omega arith) (omega arith))))
+      sym
+      (last-other (slotPath ss k i) (slotPath ss k j) a b (length-path ss k i ∙ sym (length-path ss k j))
+      (λ e. v .differ (ch .distinct i j k refl (sym (v .level)) e (omega arith) (omega arith))))
+
+  -- If their parents are one, their actions decide,
+  pub order-action : (i j a b p q : ℕ) → a ≡ actionAt ss i → b ≡ actionAt ss j → p ≡ parentAt ss i → q ≡ parentAt ss j → p ≡ q → Level ss n i j → ltb a b ≡ order ss i j
+  order-action i j a b p q ea eb ep eq d v =
+      rw (ea, eb)
+      (order-same ss (parentAt ss i) (parentAt ss j) (actionAt ss i) (actionAt ss j) (sym ep ∙ d ∙ eq) ∙ sym (order-last ss i j (parents i j v .0)))
+
+  -- and if not, their parents.
+  pub order-up : (i j p q : ℕ) → p ≡ parentAt ss i → q ≡ parentAt ss j → (p ≡ q → ⊥) → Level ss n i j → Instead ss n i j p q
+  order-up i j p q ep eq d v =
+      let s = parents i j v in
+      let u : Level ss n (parentAt ss i) (parentAt ss j) = record { first = s .2; second = s .3; differ = λ e. d (ep ∙ e ∙ sym eq); level = omega (arith, s .0, s .1, v .level) } in
+      rw (ep, eq)
+      (u, order-last ss i j (s .0) ∙ sym (order-other (parentAt ss i) (parentAt ss j) (actionAt ss i) (actionAt ss j) u), omega (arith, s .0))
 
 -- ---- a path written from its end
 

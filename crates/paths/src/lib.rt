@@ -32,8 +32,8 @@ fn action(t: &[u8], i: usize) -> u8
     slots::action(t, i) as u8
 }
 
-// Whether the path of the slot x comes before that of y, another slot with equally many steps. The last actions decide only from where the
-// two paths part, so both are followed back until their parents are one.
+// Whether the path of the slot x comes before that of y, another slot with equally many steps. The order is decided where the two paths
+// part, so both are followed back until their parents are one.
 pub fn before(t: &[u8], n: usize, x: usize, y: usize) -> bool
     requires { ⌜ (n * 160 ≤ length (now t)) × Chained (held (now t) n) × Level (held (now t) n) n x y ⌝ }
     ensures { λ r. ⌜ r ≡ order (held (now (t .entry)) n) x y ⌝ }
@@ -70,8 +70,8 @@ pub fn write(t: &[u8], n: usize, i: usize, plan: &mut [u8])
     let mut at = i;
     let mut k = steps(t, i);
     while k > 0 {
-        k -= 1;
-        plan[k] = action(t, at);
+        plan[k - 1] = action(t, at);
         at = parent(t, at);
+        k -= 1;
     }
 }

@@ -1,17 +1,12 @@
-use mathlib.Core.Path.{_≡_, refl, sym, ap, _∙_}
-use Prim.Native.Nat.{ℕ, _<_}
+-- `before` goes back on both paths: the two slots at hand are to be compared in place of the two given, and have fewer steps each turn.
+use mathlib.Core.Path.{_≡_, refl, sym, _∙_}
 use native.Mathlib.Omega.{arith}
-use lib.Dec.{ltb}
 use borrow.Author.Needs.{needs}
 use Rattle.table.proofs.LookupLaws.{length-first}
-use Rattle.paths.specs.Chain.{held, parentAt, actionAt, stepsAt, order, Level}
+use Rattle.paths.specs.Chain.{held, parentAt, stepsAt, order, Level}
 use Rattle.paths.proofs.ChainLaws.{held-parent, held-action, Instead, order-action, order-up}
 use Rattle.paths.proofs.before.Statement.{statement}
 use Rattle.paths.proofs.before.Tie as tie
-use Rattle.paths.proofs.before.Reads as reads
-use Rattle.paths.proofs.before.Lts as lts
-use Rattle.paths.proofs.action.Reads as action-reads
-use Rattle.paths.proofs.parent.Reads as parent-reads
 
 abbrev Inv-loop : tie.InvT-loop
 Inv-loop t n x y i₀ j₀ p₀ q₀ i j p q = (order (held t n) x y ≡ order (held t n) i j) × Level (held t n) n i j × (p ≡ parentAt (held t n) i) × (q ≡ parentAt (held t n) j)
@@ -26,12 +21,6 @@ risen c =
     let l = c .before .loop in
     let s = c .before .before .before .before .before in
     order-up (held (s .args .t .now) (s .args .n)) (s .args .n) (s .pre .1) (length-first (s .args .t .now) (s .args .n) (s .pre .0)) (l .i) (l .j) (l .p) (l .q) (l .inv .2) (l .inv .3) (c .loop-test .taken) (l .inv .1)
-
-parent-requires : tie.Need-parent-requires Inv-loop μ-loop
-parent-requires c κs = search needs
-
-parent-requires-2 : tie.Need-parent-requires-2 Inv-loop μ-loop
-parent-requires-2 c κs = search needs
 
 loop-holds : tie.Need-loop-holds Inv-loop μ-loop
 loop-holds c =
@@ -54,12 +43,6 @@ loop-again c =
     let s = c .before .before .before .before .before .before .before .args in
     (l .inv .0 ∙ r .1, r .0, c .before .parent3 .ensures ∙ held-parent (s .t .now) (s .n) (l .p) (r .0 .first), c .parent4 .ensures ∙ held-parent (s .t .now) (s .n) (l .q) (r .0 .second))
 
-action-requires : tie.Need-action-requires Inv-loop μ-loop
-action-requires c κs = search needs
-
-action-requires-2 : tie.Need-action-requires-2 Inv-loop μ-loop
-action-requires-2 c κs = search needs
-
 returns : tie.Need-returns Inv-loop μ-loop
 returns c =
     let l = c .before .before .before .loop in
@@ -76,13 +59,13 @@ before-spec =
     (tie.spec
     Inv-loop
     μ-loop
-    parent-requires
-    parent-requires-2
+    (λ c κs. search needs)
+    (λ c κs. search needs)
     loop-holds
     parent-requires-3
     parent-requires-4
     loop-less
     loop-again
-    action-requires
-    action-requires-2
+    (λ c κs. search needs)
+    (λ c κs. search needs)
     returns)

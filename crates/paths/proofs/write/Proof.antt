@@ -1,3 +1,4 @@
+-- `write` goes from the last action to the first: the actions still to write, and then the plan from there on, are what is wanted.
 use mathlib.Core.Path.{_≡_, refl, sym, ap, _∙_}
 use mathlib.Core.List.{_++_}
 use Prim.Native.Nat.{ℕ, suc, _-_, _<_, _≤_}
@@ -9,11 +10,6 @@ use Rattle.paths.specs.Chain.{held, stepsAt, slotPath}
 use Rattle.paths.proofs.ChainLaws.{held-parent, held-action, held-steps, write-on, write-end}
 use Rattle.paths.proofs.write.Statement.{statement}
 use Rattle.paths.proofs.write.Tie as tie
-use Rattle.paths.proofs.write.Reads as reads
-use Rattle.paths.proofs.write.Lts as lts
-use Rattle.paths.proofs.action.Reads as action-reads
-use Rattle.paths.proofs.parent.Reads as parent-reads
-use Rattle.paths.proofs.steps.Reads as steps-reads
 
 abbrev Inv-loop : tie.InvT-loop
 Inv-loop t n i plan₀ at₀ k₀ plan at k =
@@ -23,38 +19,12 @@ Inv-loop t n i plan₀ at₀ k₀ plan at k =
 abbrev μ-loop : tie.MeasureT-loop
 μ-loop t n i plan₀ at₀ k₀ plan at k = k
 
--- src/lib.rt:71:9
-steps-requires : tie.Need-steps-requires Inv-loop μ-loop
-steps-requires c κs = search needs
-
--- src/lib.rt:72:5
 loop-holds : tie.Need-loop-holds Inv-loop μ-loop
 loop-holds c =
     let s = c .before .before .before in
     let e = c .steps .ensures ∙ held-steps (s .args .t .now) (s .args .n) (s .args .i) (omega arith) in
     (ap (λ (k : ℕ). slotPath (held (s .args .t .now) (s .args .n)) k (s .args .i) ++ drop k (s .args .plan .now)) e, sym e, omega arith, omega (arith, s .pre .3), refl)
 
--- src/lib.rt:73:9
-sub-k : tie.Need-sub-k Inv-loop μ-loop
-sub-k c = search needs
-
--- src/lib.rt:74:19
-action-requires : tie.Need-action-requires Inv-loop μ-loop
-action-requires c κs = search needs
-
--- src/lib.rt:74:9
-slice-write-plan : tie.Need-slice-write-plan Inv-loop μ-loop
-slice-write-plan c = search needs
-
--- src/lib.rt:75:9
-parent-requires : tie.Need-parent-requires Inv-loop μ-loop
-parent-requires c κs = search needs
-
--- src/lib.rt:72:5
-loop-less : tie.Need-loop-less Inv-loop μ-loop
-loop-less c = search needs
-
--- src/lib.rt:72:5
 loop-again : tie.Need-loop-again Inv-loop μ-loop
 loop-again c =
     let l = c .before .before .before .loop in
@@ -64,11 +34,6 @@ loop-again c =
     let u = s .pre .1 .inside (l .at) (l .k - 1) (l .inv .1 ∙ e) (omega (arith, length-first (s .args .t .now) (s .args .n) (s .pre .0))) in
     (sym (write-on (held (s .args .t .now) (s .args .n)) (l .plan) (l .at) (l .k) (l .k - 1) _ _ e (c .before .action .ensures ∙ held-action (s .args .t .now) (s .args .n) (l .at) (omega arith)) p (omega arith)) ∙ l .inv .0, ap (stepsAt (held (s .args .t .now) (s .args .n))) p ∙ u .1, omega (arith, p, u .0, length-first (s .args .t .now) (s .args .n) (s .pre .0)), omega arith, simp length-set (omega arith))
 
--- src/lib.rt:66:1
-same-length : tie.Need-same-length Inv-loop μ-loop
-same-length c = search needs
-
--- src/lib.rt:66:1
 returns : tie.Need-returns Inv-loop μ-loop
 returns c =
     let l = c .before .loop in
@@ -81,13 +46,14 @@ write-spec =
     (tie.spec
     Inv-loop
     μ-loop
-    steps-requires
+    (λ c κs. search needs)
     loop-holds
-    sub-k
-    action-requires
-    slice-write-plan
-    parent-requires
-    loop-less
+    (λ c κs. search needs)
+    (λ c. search needs)
+    (λ c. search needs)
+    (λ c κs. search needs)
+    (λ c. search needs)
+    (λ c. search needs)
     loop-again
-    same-length
+    (λ c. search needs)
     returns)
