@@ -6,7 +6,7 @@ use native.Mathlib.Numerals.{add-one}
 use mathlib.Core.Option.{some}
 use mathlib.Core.List.{List, [], _∷_, _++_}
 use lib.ListN.{length, take, getD}
-use lib.Seq.{take-suc}
+use lib.Seq.{take-suc, take-length}
 use Rattle.model.specs.logic.Formula.{Formula}
 use Rattle.model.specs.job.Job.{Action, Job, actionOf}
 use Rattle.model.specs.job.Layout.{actionCount, actionAt, jobOf}
@@ -32,6 +32,10 @@ module _ (j : Job) where
   pub walk-more : (p : List ℕ) (i : ℕ) (w : Walk) → w ≡ walkOf j (take i p) → i < length p → stepped j w (getD p i 0) ≡ walkOf j (take (i + 1) p)
   unfolding walkOf
   walk-more p i w e l = rw (add-one i, take-suc p i 0 l, e) (sym (walkFrom-snoc (started j) (take i p) (getD p i 0)))
+
+  -- All steps of a list.
+  pub walk-all : (p : List ℕ) (i : ℕ) (w : Walk) → w ≡ walkOf j (take i p) → i ≡ length p → w ≡ walkOf j p
+  walk-all p i w e q = rw (q, take-length) at e
 
   -- ---- its parts
   walkFrom-facts : (w : Walk) (p : List ℕ) → walkFrom j w p .facts ≡ stateAfter j (w .facts) p
