@@ -1,8 +1,7 @@
 -- What formulas have left of a step list is true of the closing world exactly if they are true of the step list's worlds.
-use mathlib.Core.Path.{_≡_, refl, sym, ap, _∙_}
+use mathlib.Core.Path.{_≡_, refl, ap, _∙_}
 use Prim.Native.Nat.{ℕ, zero, suc, _≤_, _<_}
 use native.Mathlib.Omega.{arith}
-use mathlib.Core.Bool.{Bool}
 use mathlib.Core.List.{List, [], _∷_}
 use lib.ListN.{length, take, getD}
 use lib.Seq.{length-take-le, getD-take}
@@ -96,5 +95,5 @@ module _ (j : Job) (φs : List Formula) (few : FewParts φs) (short : length φs
         let n = length-residuals φs w in
         tracked-right p (j .start) (padded (residuals φs w)) (length-padded (residuals φs w) (omega arith))
         ∙ ap (λ (r : ℕ). residualHolds (partsOf (formula φs i)) r (worldsAfter j (j .start) p))
-          (getD-padded (residuals φs w) i (omega arith) ∙ getD-residuals φs w i l)
+        (getD-padded (residuals φs w) i (omega arith) ∙ getD-residuals φs w i l)
         ∙ residual-on j (formula φs i) few-at w (j .start) p

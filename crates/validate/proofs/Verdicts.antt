@@ -1,11 +1,11 @@
 -- The checks of a read-through as the code makes them are those of the definition.
 use mathlib.Core.Path.{_≡_, refl, sym, ap, ap₂, _∙_}
-use Prim.Native.Nat.{ℕ, zero, suc, _+_, _≤_, _<_}
+use Prim.Native.Nat.{ℕ, zero, suc, _≤_, _<_}
 use native.Mathlib.Nat.{zero-add}
 use native.Mathlib.Omega.{arith}
 use mathlib.Core.Bool.{Bool, false}
 use mathlib.Core.List.{List}
-use lib.Dec.{ltb, leb}
+use lib.Dec.{ltb}
 use lib.ListN.{length, take, getD}
 use borrow.Author.Tests.{ltb-true, lt-ltb, le-ltb, le-leb, lt-leb}
 use Rattle.model.specs.declared.Constant.the-variants.{True}
@@ -29,7 +29,7 @@ use Rattle.validate.specs.declared.walk.Walk.{Walk}
 use Rattle.validate.specs.Answer.{answer}
 use Rattle.validate.specs.Walk.{walkOf, closedAt, bitsFrom, endVerdict, judged}
 use Rattle.validate.proofs.HintBits.{bits-of}
-use Rattle.validate.proofs.Walks.{leftBy, walk-facts, walk-cost, walk-constraints, walk-hints}
+use Rattle.validate.proofs.Walks.{walk-facts, walk-cost, walk-constraints, walk-hints}
 use Rattle.validate.proofs.Tracks.{left-right}
 
 -- ---- answers by checks
@@ -57,7 +57,9 @@ inTurn-cong (suc n) f g h = ap₂ orElse (inTurn-cong n f g (λ i l. h i (omega 
 pub step-checked : (j : Job) (p : List ℕ) (i : ℕ) (w : Walk) (v : Verdict) → w ≡ walkOf j (take i p)
     → v ≡ orElse (unless (ltb (getD p i 0) (length (j .actions))) 6 i) (unless (applicable (actionOf j (getD p i 0)) (w .facts)) 7 i) → v ≡ stepVerdict j p i
 unfolding stepVerdict
-step-checked j p i w v e q = let f : w .facts ≡ stateAfter j (j .start) (take i p) = ap (λ (u : Walk). u .facts) e ∙ walk-facts j (take i p) in rw f at q
+step-checked j p i w v e q =
+    let f : w .facts ≡ stateAfter j (j .start) (take i p) = ap (λ (u : Walk). u .facts) e ∙ walk-facts j (take i p) in
+    rw f at q
 
 -- The two checks of a step as the code makes them: t is the test of what it needs, x the action that was read.
 pub step-unknown : (a n i : ℕ) (u v : Verdict) → u ≡ unless false 6 i → n ≤ a → u ≡ orElse (unless (ltb a n) 6 i) v
@@ -117,7 +119,8 @@ too-long j p x l = rw (lt-leb (length p) 65_535 l)
 pub validated-right : (job p : List ℕ)
     → answer (jobVerdict job) (answer (stepsVerdict (jobOf job) p) (Passed (costOf (jobOf job) p) (hintBits (jobOf job) p))) ≡ validated job p
 unfolding validated
-validated-right job p = sym (answer-orElse (jobVerdict job) (stepsVerdict (jobOf job) p) _) ∙ go (orElse (jobVerdict job) (stepsVerdict (jobOf job) p)) refl
+validated-right job p =
+    sym (answer-orElse (jobVerdict job) (stepsVerdict (jobOf job) p) _) ∙ go (orElse (jobVerdict job) (stepsVerdict (jobOf job) p)) refl
   where
     x : Validated
     x = Passed (costOf (jobOf job) p) (hintBits (jobOf job) p)

@@ -61,8 +61,9 @@ fn hint_bits(job: &[u8], rs: [u64; 8], facts: u64) -> u8
     let mut bits: u8 = 0;
     let mut i = access::wide(access::hint_count(job));
     while 0 < i {
-        i -= 1;
-        bits = with_bit(bits, progression::closes(job, from + i, rs[i], facts));
+        let hint = i - 1;
+        bits = with_bit(bits, progression::closes(job, from + hint, rs[hint], facts));
+        i = hint;
     }
     bits
 }

@@ -59,7 +59,7 @@ fn action_of(job: &[u8], step: u8) -> Action
     }
 }
 
-// That step i, which stands for itself, is one of the job's actions and applicable.
+// That step i of a list is one of the job's actions, and then that it is applicable.
 pub fn check_step(job: &[u8], facts: u64, step: u8, i: usize) -> Verdict
     requires { ⌜ jobVerdict (now job) ≡ Fine ⌝ }
     ensures { λ r. ⌜ r ≡ orElse (unless (ltb step (length (jobOf (now (job .entry)) .actions))) 6 i)

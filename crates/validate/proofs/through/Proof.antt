@@ -1,7 +1,8 @@
+-- `through` has walked the steps that it has checked: the invariant. The first check that refuses decides.
 use borrow.Author.Needs.{needs}
 use native.Mathlib.Omega.{arith}
 use mathlib.Core.Path.{_≡_, refl, sym, ap, _∙_}
-use Prim.Native.Nat.{ℕ, _+_, _-_, _*_, _≤_, _<_}
+use Prim.Native.Nat.{_-_, _*_, _≤_}
 use lib.ListN.{length, take, getD}
 use Rattle.model.specs.declared.Verdict.the-variants.{Fine}
 use Rattle.model.specs.Verdict.{inTurn}
@@ -16,22 +17,13 @@ use Rattle.validate.proofs.Walks.{walk-none, walk-more, walk-all}
 use Rattle.validate.proofs.Verdicts.{answer-bad, answer-fine, step-checked, step-known}
 use Rattle.validate.proofs.through.Statement.{statement}
 use Rattle.validate.proofs.through.Tie as tie
-use Rattle.validate.proofs.through.Reads as reads
-use Rattle.validate.proofs.through.Lts as lts
-use Rattle.validate.proofs.end.judged.Reads as judged-reads
-use Rattle.validate.proofs.walk.check_step.Reads as check-step-reads
-use Rattle.validate.proofs.walk.make.Reads as make-reads
-use Rattle.validate.proofs.walk.start.Reads as start-reads
 
 abbrev Inv-loop : tie.InvT-loop
-Inv-loop job steps w₀ i₀ w i = (i ≤ length steps) × (w ≡ walkOf (jobOf job) (take i steps)) × (w .cost ≤ 65_535 * i) × (inTurn i (stepVerdict (jobOf job) steps) ≡ Fine)
+Inv-loop job steps w₀ i₀ w i =
+    (i ≤ length steps) × (w ≡ walkOf (jobOf job) (take i steps)) × (w .cost ≤ 65_535 * i) × (inTurn i (stepVerdict (jobOf job) steps) ≡ Fine)
 
 abbrev μ-loop : tie.MeasureT-loop
 μ-loop job steps w₀ i₀ w i = length steps - i
-
--- src/lib.rt:27:9
-start-requires : tie.Need-start-requires Inv-loop μ-loop
-start-requires c κs = search needs
 
 abbrev entry : tie.After-check-step Inv-loop μ-loop → tie.Start Inv-loop μ-loop
 entry c = c .before .before .before .before .before .before .before
@@ -43,57 +35,53 @@ told c =
     let l = c .before .before .before .loop in
     step-checked (jobOf (entry c .args .job .now)) (entry c .args .steps .now) (l .i) (l .w) _ (l .inv .1) (c .check-step .ensures)
 
--- src/lib.rt:29:5
 loop-holds : tie.Need-loop-holds Inv-loop μ-loop
 unfolding started
 loop-holds c = (omega arith, c .start .ensures ∙ walk-none _, omega (arith, ap (λ (w : Walk). w .cost) (c .start .ensures)), none-yet _)
 
--- src/lib.rt:30:54
-shared-slice-read-check-step : tie.Need-shared-slice-read-check-step Inv-loop μ-loop
-shared-slice-read-check-step c = search needs
-
--- src/lib.rt:30:13
-check-step-requires : tie.Need-check-step-requires Inv-loop μ-loop
-check-step-requires c κs = search needs
-
--- src/lib.rt:31:29
-enum-known-verdict : tie.Need-enum-known-verdict Inv-loop μ-loop
-enum-known-verdict c = search needs
-
--- src/lib.rt:32:13
 returns : tie.Need-returns Inv-loop μ-loop
-returns c = let d = c .before .before .before in let l = d .before .before .before .loop in let s = entry d in answer-bad _ _ _ (inTurn-first (length (s .args .steps .now)) (l .i) _ (l .inv .3) (sym (told d) ∙ c .before .verdict .given .1) (omega arith))
+returns c =
+    let d = c .before .before .before in
+    let l = d .before .before .before .loop in
+    let s = entry d in
+    answer-bad _ _ _ (inTurn-first (length (s .args .steps .now)) (l .i) _ (l .inv .3) (sym (told d) ∙ c .before .verdict .given .1) (omega arith))
 
-enum-told : tie.Need-enum-told Inv-loop μ-loop
-enum-told c = search needs
-
--- src/lib.rt:34:32
-shared-slice-read-make : tie.Need-shared-slice-read-make Inv-loop μ-loop
-shared-slice-read-make c = search needs
-
--- src/lib.rt:34:9
 make-requires : tie.Need-make-requires Inv-loop μ-loop
-make-requires c κs = let d = c .before .before .before in let s = entry d in let b = s .args .job .now in (s .pre .0, rw length-actions at (step-known (getD (s .args .steps .now) (d .before .before .before .loop .i) 0) _ _ _ (sym (d .check-step .ensures) ∙ c .before .enum-told .given .1)), omega arith)
+make-requires c κs =
+    let d = c .before .before .before in
+    let s = entry d in
+    let b = s .args .job .now in (
+      s .pre .0,
+      rw length-actions at
+          (step-known (getD (s .args .steps .now) (d .before .before .before .loop .i) 0) _ _ _
+          (sym (d .check-step .ensures) ∙ c .before .enum-told .given .1)),
+      omega arith,
+    )
 
--- src/lib.rt:35:9
-add-i : tie.Need-add-i Inv-loop μ-loop
-add-i c = search needs
-
--- src/lib.rt:29:5
-loop-less : tie.Need-loop-less Inv-loop μ-loop
-loop-less c = search needs
-
--- src/lib.rt:29:5
 loop-again : tie.Need-loop-again Inv-loop μ-loop
-loop-again c = let e = c .before .before in let d = e .before .before in let l = d .before .before .before .loop in let s = entry d in let j = jobOf (s .args .job .now) in let p = s .args .steps .now in (omega arith, c .make .ensures .0 ∙ walk-more j p (l .i) _ (l .inv .1) (omega arith), omega arith, fine-at (stepVerdict j p) (l .i) Fine (l .inv .3) (sym (e .enum-told .given .1) ∙ told d) refl refl)
+loop-again c =
+    let e = c .before .before in
+    let d = e .before .before in
+    let l = d .before .before .before .loop in
+    let s = entry d in
+    let j = jobOf (s .args .job .now) in
+    let p = s .args .steps .now in (
+      omega arith,
+      c .make .ensures .0 ∙ walk-more j p (l .i) _ (l .inv .1) (omega arith),
+      omega arith,
+      fine-at (stepVerdict j p) (l .i) Fine
+          (l .inv .3) (sym (e .enum-told .given .1) ∙ told d) refl refl,
+    )
 
--- src/lib.rt:37:5
-judged-requires : tie.Need-judged-requires Inv-loop μ-loop
-judged-requires c κs = search needs
-
--- src/lib.rt:22:1
 returns-2 : tie.Need-returns-2 Inv-loop μ-loop
-returns-2 c = let l = c .before .before .loop in let s = c .before .before .before .before .before .before in let j = jobOf (s .args .job .now) in let p = s .args .steps .now in let n : l .i ≡ length p = omega arith in answer-fine _ _ _ (sym (all-fine (stepVerdict j p) (length p) (l .i) (l .inv .3) n)) (c .judged .ensures ∙ ap (judged j) (walk-all j p (l .i) _ (l .inv .1) n))
+returns-2 c =
+    let l = c .before .before .loop in
+    let s = c .before .before .before .before .before .before in
+    let j = jobOf (s .args .job .now) in
+    let p = s .args .steps .now in
+    let n : l .i ≡ length p = omega arith in
+    answer-fine _ _ _ (sym (all-fine (stepVerdict j p) (length p) (l .i) (l .inv .3) n))
+    (c .judged .ensures ∙ ap (judged j) (walk-all j p (l .i) _ (l .inv .1) n))
 
 pub through-spec : {M : Type 1} → statement M
 through-spec =
@@ -101,17 +89,17 @@ through-spec =
     (tie.spec
     Inv-loop
     μ-loop
-    start-requires
+    (λ c κs. search needs)
     loop-holds
-    shared-slice-read-check-step
-    check-step-requires
-    enum-known-verdict
+    (λ c. search needs)
+    (λ c κs. search needs)
+    (λ c. search needs)
     returns
-    enum-told
-    shared-slice-read-make
+    (λ c. search needs)
+    (λ c. search needs)
     make-requires
-    add-i
-    loop-less
+    (λ c. search needs)
+    (λ c. search needs)
     loop-again
-    judged-requires
+    (λ c κs. search needs)
     returns-2)

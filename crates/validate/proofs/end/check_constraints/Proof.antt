@@ -1,8 +1,9 @@
+-- `check_constraints` passes constraints that are met: the invariant. The first that is not decides.
 use borrow.Author.Needs.{needs}
 use native.Mathlib.Omega.{arith}
 use Rattle.job.proofs.Accepted.{accepted-laid}
-use mathlib.Core.Path.{_≡_, refl, sym, ap, _∙_}
-use Prim.Native.Nat.{ℕ, _+_, _-_, _≤_, _<_}
+use mathlib.Core.Path.{_≡_, ap, _∙_}
+use Prim.Native.Nat.{ℕ, _-_, _≤_}
 use mathlib.Core.Bool.{Bool}
 use mathlib.Core.List.{List}
 use Rattle.model.specs.declared.Verdict.{Verdict}
@@ -14,13 +15,6 @@ use Rattle.validate.specs.Walk.{closedAt}
 use Rattle.validate.proofs.Counts.{constraint-closed}
 use Rattle.validate.proofs.end.check_constraints.Statement.{statement}
 use Rattle.validate.proofs.end.check_constraints.Tie as tie
-use Rattle.validate.proofs.end.check_constraints.Reads as reads
-use Rattle.validate.proofs.end.check_constraints.Lts as lts
-use Rattle.job.proofs.access.constraint_count.Reads as constraint-count-reads
-use Rattle.job.proofs.access.wide.Reads as wide-reads
-use Rattle.job.proofs.checks.refuses.Reads as refuses-reads
-use Rattle.job.proofs.checks.unless.Reads as unless-reads
-use Rattle.progression.proofs.closes.Reads as closes-reads
 
 -- the check of constraint i
 abbrev checked : List ℕ → List ℕ → ℕ → ℕ → Verdict
@@ -32,13 +26,8 @@ Inv-loop job facts rs count i₀ i = (i ≤ count) × (inTurn i (checked job rs 
 abbrev μ-loop : tie.MeasureT-loop
 μ-loop job facts rs count i₀ i = count - i
 
--- src/end.rt:22:30
 constraint-count-requires : tie.Need-constraint-count-requires Inv-loop μ-loop
 constraint-count-requires c κs = accepted-laid _ (c .before .pre) .head
-
--- src/end.rt:22:9
-wide-requires : tie.Need-wide-requires Inv-loop μ-loop
-wide-requires c κs = search needs
 
 told : (c : tie.After-unless Inv-loop μ-loop)
     → (let s = c .before .before .before .before .before .before .before in
@@ -48,49 +37,36 @@ told c =
     c .unless .ensures
     ∙ ap (λ (b : Bool). unless b 9 (c .before .before .before .loop .i)) (c .before .closes .ensures ∙ constraint-closed (s .args .job .now) (s .args .t2) _ _ (omega arith))
 
--- src/end.rt:24:5
 loop-holds : tie.Need-loop-holds Inv-loop μ-loop
 loop-holds c = (omega arith, none-yet _)
 
--- src/end.rt:25:66
 mul-closes : tie.Need-mul-closes Inv-loop μ-loop
 mul-closes c = let l = accepted-laid _ (c .before .before .before .before .before .pre) in omega arith
 
--- src/end.rt:25:66
 array-read-closes : tie.Need-array-read-closes Inv-loop μ-loop
 array-read-closes c = let l = accepted-laid _ (c .before .before .before .before .before .pre) in omega arith
 
--- src/end.rt:25:38
 closes-requires : tie.Need-closes-requires Inv-loop μ-loop
 closes-requires c κs = (c .before .before .before .before .before .pre, omega arith)
 
--- src/end.rt:25:13
-unless-requires : tie.Need-unless-requires Inv-loop μ-loop
-unless-requires c κs = search needs
-
--- src/end.rt:26:12
-refuses-requires : tie.Need-refuses-requires Inv-loop μ-loop
-refuses-requires c κs = search needs
-
--- src/end.rt:27:13
 returns : tie.Need-returns Inv-loop μ-loop
-returns c = let d = c .before .before in let l = d .before .before .before .loop in let s = d .before .before .before .before .before .before .before in refused-at (checked (s .args .job .now) (s .args .t2) (s .args .facts)) (constraintCount (s .args .job .now)) (l .i) _ (l .inv .1) (told d) (c .before .refuses .ensures) (c .if1 .taken) (omega arith)
+returns c =
+    let d = c .before .before in
+    let l = d .before .before .before .loop in
+    let s = d .before .before .before .before .before .before .before in
+    refused-at (checked (s .args .job .now) (s .args .t2) (s .args .facts)) (constraintCount (s .args .job .now)) (l .i) _ (l .inv .1) (told d)
+    (c .before .refuses .ensures) (c .if1 .taken) (omega arith)
 
--- src/end.rt:29:9
-add-i : tie.Need-add-i Inv-loop μ-loop
-add-i c = search needs
-
--- src/end.rt:24:5
-loop-less : tie.Need-loop-less Inv-loop μ-loop
-loop-less c = search needs
-
--- src/end.rt:24:5
 loop-again : tie.Need-loop-again Inv-loop μ-loop
-loop-again c = let d = c .before .before in (omega arith, fine-at (checked _ _ _) _ _ (d .before .before .before .loop .inv .1) (told d) (c .before .refuses .ensures) (c .if1 .left))
+loop-again c =
+    let d = c .before .before in
+    (omega arith, fine-at (checked _ _ _) _ _ (d .before .before .before .loop .inv .1) (told d) (c .before .refuses .ensures) (c .if1 .left))
 
--- src/end.rt:18:1
 returns-2 : tie.Need-returns-2 Inv-loop μ-loop
-returns-2 c = let s = c .before .before .before .before .before in all-fine (checked (s .args .job .now) (s .args .t2) (s .args .facts)) (constraintCount (s .args .job .now)) (c .before .loop .i) (c .before .loop .inv .1) (omega arith)
+returns-2 c =
+    let s = c .before .before .before .before .before in
+    all-fine (checked (s .args .job .now) (s .args .t2) (s .args .facts)) (constraintCount (s .args .job .now)) (c .before .loop .i)
+    (c .before .loop .inv .1) (omega arith)
 
 pub check-constraints-spec : {M : Type 1} → statement M
 check-constraints-spec =
@@ -99,15 +75,15 @@ check-constraints-spec =
     Inv-loop
     μ-loop
     constraint-count-requires
-    wide-requires
+    (λ c κs. search needs)
     loop-holds
     mul-closes
     array-read-closes
     closes-requires
-    unless-requires
-    refuses-requires
+    (λ c κs. search needs)
+    (λ c κs. search needs)
     returns
-    add-i
-    loop-less
+    (λ c. search needs)
+    (λ c. search needs)
     loop-again
     returns-2)

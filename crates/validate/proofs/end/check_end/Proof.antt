@@ -1,6 +1,7 @@
+-- `check_end` checks the goal, and after it the constraints.
 use Rattle.job.proofs.Accepted.{accepted-laid}
-use mathlib.Core.Path.{_≡_, refl, sym, ap, _∙_}
-use Prim.Native.Nat.{ℕ, _+_, _-_, _≤_, _<_}
+use mathlib.Core.Path.{_≡_, ap, _∙_}
+use Prim.Native.Nat.{ℕ}
 use mathlib.Core.Bool.{Bool}
 use Rattle.model.specs.Verdict.{unless}
 use Rattle.model.specs.job.Layout.{jobOf}
@@ -12,29 +13,9 @@ use Rattle.validate.proofs.Counts.{length-constraints}
 use borrow.Author.Needs.{needs}
 use Rattle.validate.proofs.end.check_end.Statement.{statement}
 use Rattle.validate.proofs.end.check_end.Tie as tie
-use Rattle.validate.proofs.end.check_end.Reads as reads
-use Rattle.validate.proofs.end.check_end.Lts as lts
-use Rattle.job.proofs.access.goal.Reads as goal-reads
-use Rattle.job.proofs.checks.refuses.Reads as refuses-reads
-use Rattle.job.proofs.checks.unless.Reads as unless-reads
-use Rattle.task.proofs.State.has.Reads as has-reads
-use Rattle.validate.proofs.end.check_constraints.Reads as check-constraints-reads
 
--- src/end.rt:40:44
 goal-requires : tie.Need-goal-requires
 goal-requires c κs = let l = accepted-laid _ (c .before .pre) in (task-pair l, task-inside l)
-
--- src/end.rt:40:34
-has-requires : tie.Need-has-requires
-has-requires c κs = search needs
-
--- src/end.rt:40:9
-unless-requires : tie.Need-unless-requires
-unless-requires c κs = search needs
-
--- src/end.rt:41:8
-refuses-requires : tie.Need-refuses-requires
-refuses-requires c κs = search needs
 
 -- the check of the goal
 told : (c : tie.After-unless)
@@ -44,28 +25,24 @@ told c =
     c .unless .ensures
     ∙ ap (λ (b : Bool). unless b 8 0) (c .before .has .ensures ∙ ap (λ (g : ℕ). within g (s .args .facts)) (c .before .before .goal .ensures))
 
--- src/end.rt:42:9
 returns : tie.Need-returns
 unfolding endVerdict
 returns c = refused _ _ _ (told (c .before .before)) (c .before .refuses .ensures) (c .if1 .taken)
 
--- src/end.rt:44:5
-check-constraints-requires : tie.Need-check-constraints-requires
-check-constraints-requires c κs = search needs
-
--- src/end.rt:35:1
 returns-2 : tie.Need-returns-2
 unfolding endVerdict
-returns-2 c = let d = c .before .before .before in after _ _ _ (fine _ (told d) (c .before .before .refuses .ensures) (c .before .if1 .left)) (rw length-constraints (c .check-constraints .ensures))
+returns-2 c =
+    let d = c .before .before .before in
+    after _ _ _ (fine _ (told d) (c .before .before .refuses .ensures) (c .before .if1 .left)) (rw length-constraints (c .check-constraints .ensures))
 
 pub check-end-spec : {M : Type 1} → statement M
 check-end-spec =
     tie.close
     (tie.spec
     goal-requires
-    has-requires
-    unless-requires
-    refuses-requires
+    (λ c κs. search needs)
+    (λ c κs. search needs)
+    (λ c κs. search needs)
     returns
-    check-constraints-requires
+    (λ c κs. search needs)
     returns-2)
