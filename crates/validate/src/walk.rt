@@ -79,16 +79,18 @@ pub fn make(job: &[u8], w: Walk, step: u8) -> Walk
     ensures { λ r. ⌜ (r ≡ stepped (jobOf (now (job .entry))) w step) × (r .cost ≤ w .cost + 65535) ⌝ }
 {
     let action = action_of(job, step);
+    let price = action.cost;
+    let spent = w.cost;
+    let left = w.constraints;
+    let hinted = w.hints;
     let before = State { facts: w.facts };
     let after = before.after(action);
     let facts = after.facts;
-    let left = w.constraints;
     let constraints = progression::constraints_next(job, left, facts, step);
-    let hinted = w.hints;
     let hints = progression::hints_next(job, hinted, facts, step);
     Walk {
         facts,
-        cost: w.cost + action.cost,
+        cost: spent + price,
         constraints,
         hints,
     }

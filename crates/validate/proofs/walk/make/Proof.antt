@@ -11,7 +11,7 @@ use Rattle.validate.proofs.walk.make.Statement.{statement}
 use Rattle.validate.proofs.walk.make.Tie as tie
 
 constraints-next-requires : tie.Need-constraints-next-requires
-constraints-next-requires c κs = let d = c .before .before .before .before in let l = accepted-laid _ (d .pre .0) in (d .pre .0, omega arith)
+constraints-next-requires c κs = let d = c .before .before .before .before .before in let l = accepted-laid _ (d .pre .0) in (d .pre .0, omega arith)
 
 hints-next-requires : tie.Need-hints-next-requires
 hints-next-requires c κs =
@@ -21,13 +21,12 @@ hints-next-requires c κs =
 
 returns : tie.Need-returns
 returns c =
-    let h = c .before .before in
-    let q = h .before .before in
-    let a = q .before .before in
-    let d = a .before .before .before in
+    let a = c .before .before in
+    let x = a .before .before .before in
+    let d = x .before .before in
     let b = d .args .job .now in (
-      step-made (jobOf b) (d .args .w) (d .args .step) _ _ _ (actionIs (a .before .action-of .result)) _ _ (a .before .action-of .ensures .0)
-          (a .after .ensures) (q .constraints-next .ensures) (h .hints-next .ensures) (sym (length-constraints b)) (sym (length-hints b)),
+      step-made (jobOf b) (d .args .w) (d .args .step) _ _ _ (actionIs (x .action-of .result)) _ _ (x .action-of .ensures .0)
+          (a .after .ensures) (c .before .constraints-next .ensures) (c .hints-next .ensures) (sym (length-constraints b)) (sym (length-hints b)),
       omega arith,
     )
 
