@@ -34,7 +34,8 @@ module _ (f : ℕ → Bool) where
   bits-room n i x e h l = let few : n - i ≤ 7 = omega arith in rw e (lt-of-lt-of-le (bitsFrom-lt i (n - i)) (pow-mono few))
 
   -- One bit more, below the others.
-  pub bits-more : (n i x : ℕ) (b : Bool) → x ≡ bitsFrom f i (n - i) → b ≡ f (i - 1) → 0 < i → i ≤ n → digit b + 2 * x ≡ bitsFrom f (i - 1) (n - (i - 1))
+  pub bits-more : (n i x : ℕ) (b : Bool) → x ≡ bitsFrom f i (n - i) → b ≡ f (i - 1) → 0 < i → i ≤ n
+      → digit b + 2 * x ≡ bitsFrom f (i - 1) (n - (i - 1))
   unfolding bitsFrom
   bits-more n i x b e t l m =
       let p : n - (i - 1) ≡ suc (n - i) = omega arith in

@@ -87,7 +87,8 @@ module _ (j : Job) (proper : ProperJob j) (p : List ℕ) where
       → closedAt (j .hints) (walkOf j p .hints) (walkOf j p .facts) i ≡ holds (getD (j .hints) i (constant True)) (worlds j p)
   hints-right i l = rw (walk-hints, walk-facts) (left-right j (j .hints) (proper .hint-parts) (proper .few-hints) i l p)
 
-  end-right : endVerdict j (walkOf j p .constraints) (walkOf j p .facts) ≡ orElse (goalVerdict j p) (inTurn (length (j .constraints)) (constraintVerdict j p))
+  end-right : endVerdict j (walkOf j p .constraints) (walkOf j p .facts)
+      ≡ orElse (goalVerdict j p) (inTurn (length (j .constraints)) (constraintVerdict j p))
   unfolding endVerdict goalVerdict constraintVerdict
   end-right =
       ap₂ orElse (ap (λ (s : ℕ). unless (within (j .goal) s) 8 0) (walk-facts j p))
@@ -100,11 +101,12 @@ module _ (j : Job) (proper : ProperJob j) (p : List ℕ) where
       (λ i l. rw zero-add (hints-right i l))
 
   -- The judgement of the whole walk is that of the definition.
-  judged-right : judged j (walkOf j p) ≡ answer (orElse (goalVerdict j p) (inTurn (length (j .constraints)) (constraintVerdict j p))) (Passed (costOf j p) (hintBits j p))
+  judged-right : judged j (walkOf j p)
+      ≡ answer (orElse (goalVerdict j p) (inTurn (length (j .constraints)) (constraintVerdict j p))) (Passed (costOf j p) (hintBits j p))
   unfolding judged
   judged-right = ap₂ answer end-right (ap₂ Passed (walk-cost j p) bits-right)
 
-  -- ---- a step list of an accepted job
+  -- A step list that is not too long: the steps in turn, and then the end.
   pub through-right : length p ≤ 65_535
       → answer (inTurn (length p) (stepVerdict j p)) (judged j (walkOf j p)) ≡ answer (stepsVerdict j p) (Passed (costOf j p) (hintBits j p))
   unfolding stepsVerdict lengthVerdict unless orElse
@@ -125,6 +127,7 @@ validated-right job p =
     x : Validated
     x = Passed (costOf (jobOf job) p) (hintBits (jobOf job) p)
 
-    go : (v : Verdict) → orElse (jobVerdict job) (stepsVerdict (jobOf job) p) ≡ v → answer (orElse (jobVerdict job) (stepsVerdict (jobOf job) p)) x ≡ validated job p
+    go : (v : Verdict) → orElse (jobVerdict job) (stepsVerdict (jobOf job) p) ≡ v
+        → answer (orElse (jobVerdict job) (stepsVerdict (jobOf job) p)) x ≡ validated job p
     go Fine e = rw (e, validated)
     go (Bad r) e = rw (e, validated)

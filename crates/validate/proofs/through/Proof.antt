@@ -25,10 +25,11 @@ Inv-loop job steps w₀ i₀ w i =
 abbrev μ-loop : tie.MeasureT-loop
 μ-loop job steps w₀ i₀ w i = length steps - i
 
+-- the function's entry
 abbrev entry : tie.After-check-step Inv-loop μ-loop → tie.Start Inv-loop μ-loop
 entry c = c .before .before .before .before .before .before .before
 
--- the check of step i
+-- the code's check is that of step i
 told : (c : tie.After-check-step Inv-loop μ-loop)
     → c .check-step .result ≡ stepVerdict (jobOf (entry c .args .job .now)) (entry c .args .steps .now) (c .before .before .before .loop .i)
 told c =
@@ -49,8 +50,7 @@ returns c =
 make-requires : tie.Need-make-requires Inv-loop μ-loop
 make-requires c κs =
     let d = c .before .before .before in
-    let s = entry d in
-    let b = s .args .job .now in (
+    let s = entry d in (
       s .pre .0,
       rw length-actions at
           (step-known (getD (s .args .steps .now) (d .before .before .before .loop .i) 0) _ _ _

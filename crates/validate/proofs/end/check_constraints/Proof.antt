@@ -29,13 +29,15 @@ abbrev μ-loop : tie.MeasureT-loop
 constraint-count-requires : tie.Need-constraint-count-requires Inv-loop μ-loop
 constraint-count-requires c κs = accepted-laid _ (c .before .pre) .head
 
+-- the code's check is that of constraint i
 told : (c : tie.After-unless Inv-loop μ-loop)
     → (let s = c .before .before .before .before .before .before .before in
     c .unless .result ≡ checked (s .args .job .now) (s .args .t2) (s .args .facts) (c .before .before .before .loop .i))
 told c =
     let s = c .before .before .before .before .before .before .before in
+    let i = c .before .before .before .loop .i in
     c .unless .ensures
-    ∙ ap (λ (b : Bool). unless b 9 (c .before .before .before .loop .i)) (c .before .closes .ensures ∙ constraint-closed (s .args .job .now) (s .args .t2) _ _ (omega arith))
+    ∙ ap (λ (b : Bool). unless b 9 i) (c .before .closes .ensures ∙ constraint-closed (s .args .job .now) (s .args .t2) _ i (omega arith))
 
 loop-holds : tie.Need-loop-holds Inv-loop μ-loop
 loop-holds c = (omega arith, none-yet _)

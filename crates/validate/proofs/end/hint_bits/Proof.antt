@@ -29,9 +29,11 @@ constraint-count-requires c κs = accepted-laid _ (c .before .pre) .head
 hint-count-requires : tie.Need-hint-count-requires Inv-loop μ-loop
 hint-count-requires c κs = accepted-laid _ (c .before .before .before .pre) .head
 
+-- the function's entry
 abbrev entry : tie.In-loop Inv-loop μ-loop → tie.Start Inv-loop μ-loop
 entry c = c .before .before .before .before .before .before .before
 
+-- the code's test is that of the hint before i
 told : (c : tie.After-closes Inv-loop μ-loop)
     → (let s = entry (c .before) in
     c .closes .result ≡ met (s .args .job .now) (s .args .t2) (s .args .facts) (c .before .before .loop .i - 1))
