@@ -1,0 +1,64 @@
+// The read-through: refuses a step list that is no allowed plan of a job, or gives its cost and which hints it meets.
+use model::Refusal;
+use model::Validated;
+use model::Verdict;
+ghost use mathlib.Core.Path.{_≡_};
+ghost use Prim.Native.Nat.{_≤_};
+ghost use lib.ListN.{length};
+ghost use Rattle.model.specs.declared.Verdict.the-variants.{Fine};
+ghost use Rattle.model.specs.declared.Validated.the-variants.{Passed};
+ghost use Rattle.model.specs.Verdict.{inTurn};
+ghost use Rattle.model.specs.job.Layout.{jobOf};
+ghost use Rattle.model.specs.job.Decoding.{jobVerdict};
+ghost use Rattle.model.specs.task.Plan.{costOf};
+ghost use Rattle.model.specs.calls.Validate.{stepVerdict, stepsVerdict, hintBits, validated};
+ghost use Rattle.validate.specs.Answer.{answer};
+ghost use Rattle.validate.specs.Walk.{walkOf, judged};
+
+mod walk; // walk.rt: what the steps made so far lead to
+mod end; // end.rt: the checks behind the last step
+
+// Checks and makes the steps in turn, and judges where they lead.
+fn through(job: &[u8], steps: &[u8]) -> Validated
+    requires { ⌜ (jobVerdict (now job) ≡ Fine) × (length (now steps) ≤ 65535) ⌝ }
+    ensures { λ r. ⌜ r ≡ answer (inTurn (length (now (steps .entry))) (stepVerdict (jobOf (now (job .entry))) (now (steps .entry))))
+        (judged (jobOf (now (job .entry))) (walkOf (jobOf (now (job .entry))) (now (steps .entry)))) ⌝ }
+{
+    let mut w = walk::start(job);
+    let mut i = 0;
+    while i < steps.len() {
+        let verdict = walk::check_step(job, w.facts, steps[i], i);
+        if let Verdict::Bad(refusal) = verdict {
+            return Validated::Refused(refusal);
+        }
+        w = walk::make(job, w, steps[i]);
+        i += 1;
+    }
+    end::judged(job, w)
+}
+
+// The step list of a job that is accepted.
+fn read_through(job: &[u8], steps: &[u8]) -> Validated
+    requires { ⌜ jobVerdict (now job) ≡ Fine ⌝ }
+    ensures { λ r. ⌜ r ≡ answer (stepsVerdict (jobOf (now (job .entry))) (now (steps .entry)))
+        (Passed (costOf (jobOf (now (job .entry))) (now (steps .entry))) (hintBits (jobOf (now (job .entry))) (now (steps .entry)))) ⌝ }
+{
+    if 65535 < steps.len() {
+        return Validated::Refused(Refusal {
+            number: 6,
+            place: 65535,
+        });
+    }
+    through(job, steps)
+}
+
+// The first refusal that applies to the job or to its step list, or the cost and the hints that are met. Any bytes may be lent.
+pub fn validate(job: &[u8], steps: &[u8]) -> Validated
+    ensures { λ r. ⌜ r ≡ validated (now (job .entry)) (now (steps .entry)) ⌝ }
+{
+    let verdict = job::decode(job);
+    match verdict {
+        Verdict::Bad(refusal) => Validated::Refused(refusal),
+        Verdict::Fine => read_through(job, steps),
+    }
+}
