@@ -1,0 +1,154 @@
+// The nodes of an accepted job as values, for the search. A node is nine numbers: the state, then the residual of each constraint, and 0 behind the
+// last. The residuals of the hints, which a path carries beside its node, are eight numbers.
+use job::access;
+use task::Action;
+use task::State;
+ghost use mathlib.Core.Path.{_≡_};
+ghost use mathlib.Core.List.{_∷_};
+ghost use Prim.Native.Nat.{_<_};
+ghost use lib.ListN.{drop};
+ghost use Rattle.model.specs.declared.Verdict.the-variants.{Fine};
+ghost use Rattle.model.specs.job.Layout.{actionCount, constraintCount, hintCount, jobOf};
+ghost use Rattle.model.specs.job.Decoding.{jobVerdict};
+ghost use Rattle.model.specs.search.Node.{someDead};
+ghost use Rattle.model.specs.search.JobSystem.{startNode, nextNode, isGoal, startHints, carryHints};
+ghost use Rattle.nodes.specs.Meaning.{nodeIs, hintsIs, Acts, Costs, Made, Leads, Carries};
+
+// What an action leads to. Where it leads nowhere, alive is false and the node, clean as any, means nothing.
+pub struct Reached {
+    pub alive: bool,
+    pub node: [u64; 9],
+}
+
+pub fn action_of(job: &[u8], i: u8) -> Action
+    requires { ⌜ (jobVerdict (now job) ≡ Fine) × (i < actionCount (now job)) ⌝ }
+    ensures { λ r. ⌜ Acts (jobOf (now (job .entry))) i r ⌝ }
+{
+    let k = access::wide(i);
+    Action {
+        pre: access::action_pre(job, k),
+        add: access::action_add(job, k),
+        del: access::action_del(job, k),
+        cost: access::action_cost(job, k),
+    }
+}
+
+pub fn cost_of(job: &[u8], i: u8) -> u64
+    requires { ⌜ (jobVerdict (now job) ≡ Fine) × (i < actionCount (now job)) ⌝ }
+    ensures { λ r. ⌜ Costs (jobOf (now (job .entry))) i r ⌝ }
+{
+    access::action_cost(job, access::wide(i))
+}
+
+// A state in front of residuals.
+fn node_of(facts: u64, rs: [u64; 8]) -> [u64; 9]
+    ensures { λ r. ⌜ r ≡ facts ∷ rs ⌝ }
+{
+    [
+        facts,
+        rs[0],
+        rs[1],
+        rs[2],
+        rs[3],
+        rs[4],
+        rs[5],
+        rs[6],
+        rs[7],
+    ]
+}
+
+// What stands behind the state.
+fn residuals_of(node: [u64; 9]) -> [u64; 8]
+    ensures { λ r. ⌜ r ≡ drop 1 node ⌝ }
+{
+    [
+        node[1],
+        node[2],
+        node[3],
+        node[4],
+        node[5],
+        node[6],
+        node[7],
+        node[8],
+    ]
+}
+
+// The node of a state and residuals, unless one of the constraints is dead.
+fn unless_dead(job: &[u8], facts: u64, rs: [u64; 8]) -> Reached
+    requires { ⌜ jobVerdict (now job) ≡ Fine ⌝ }
+    ensures { λ r. ⌜ Made (constraintCount (now (job .entry))) facts rs r ⌝ }
+{
+    let count = access::wide(access::constraint_count(job));
+    Reached {
+        alive: !progression::some_dead(rs, count),
+        node: node_of(facts, rs),
+    }
+}
+
+pub fn start(job: &[u8]) -> Reached
+    requires { ⌜ jobVerdict (now job) ≡ Fine ⌝ }
+    ensures { λ r. ⌜ Leads (constraintCount (now (job .entry))) (startNode (jobOf (now (job .entry)))) r ⌝ }
+{
+    let facts = access::start(job);
+    unless_dead(job, facts, progression::constraints_first(job, facts))
+}
+
+// The node that action i leads to. The constraints see the state after the action.
+pub fn next(job: &[u8], node: [u64; 9], i: u8) -> Reached
+    requires { ⌜ (jobVerdict (now job) ≡ Fine) × (i < actionCount (now job)) ⌝ }
+    ensures { λ r. ⌜ Leads (constraintCount (now (job .entry)))
+        (nextNode (jobOf (now (job .entry))) (nodeIs (constraintCount (now (job .entry))) node) i) r ⌝ }
+{
+    let action = action_of(job, i);
+    let state = State { facts: node[0] };
+    if !state.applicable(action) {
+        return Reached {
+            alive: false,
+            node: [0; 9],
+        };
+    }
+    let facts = state.after(action).facts;
+    unless_dead(
+        job,
+        facts,
+        progression::constraints_next(job, residuals_of(node), facts, i),
+    )
+}
+
+// Whether a path may end at a node: the goal is true, and so is each constraint's residual, of the closing world.
+pub fn is_goal(job: &[u8], node: [u64; 9]) -> bool
+    requires { ⌜ jobVerdict (now job) ≡ Fine ⌝ }
+    ensures { λ r. ⌜ r ≡ isGoal (jobOf (now (job .entry))) (nodeIs (constraintCount (now (job .entry))) node) ⌝ }
+{
+    let facts = node[0];
+    let state = State { facts };
+    if !state.has(access::goal(job)) {
+        return false;
+    }
+    progression::constraints_close(job, residuals_of(node), facts)
+}
+
+pub fn start_hints(job: &[u8]) -> [u64; 8]
+    requires { ⌜ jobVerdict (now job) ≡ Fine ⌝ }
+    ensures { λ r. ⌜ Carries (hintCount (now (job .entry))) (startHints (jobOf (now (job .entry)))) r ⌝ }
+{
+    progression::hints_first(job, access::start(job))
+}
+
+// What the hints leave at the node that action i led to.
+pub fn next_hints(job: &[u8], hints: [u64; 8], node: [u64; 9], i: u8) -> [u64; 8]
+    requires { ⌜ (jobVerdict (now job) ≡ Fine) × (i < actionCount (now job)) ⌝ }
+    ensures { λ r. ⌜ Carries (hintCount (now (job .entry)))
+        (carryHints (jobOf (now (job .entry))) (hintsIs (hintCount (now (job .entry))) hints) (nodeIs (constraintCount (now (job .entry))) node) i) r ⌝ }
+{
+    progression::hints_next(job, hints, node[0], i)
+}
+
+// Whether no plan through here meets the hints: one of them is dead.
+pub fn is_cut(job: &[u8], hints: [u64; 8]) -> bool
+    requires { ⌜ jobVerdict (now job) ≡ Fine ⌝ }
+    ensures { λ r. ⌜ r ≡ someDead (hintsIs (hintCount (now (job .entry))) hints) ⌝ }
+{
+    let count = access::wide(access::hint_count(job));
+    progression::some_dead(hints, count)
+}

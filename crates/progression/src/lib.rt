@@ -1,0 +1,113 @@
+// The residuals of an accepted job's formulas, progressed together: those of the constraints in one array, those of the hints in another.
+// Formula i stands in section 1 + i, constraints first; entries behind the last formula are 0.
+use job::access;
+ghost use mathlib.Core.Path.{_≡_};
+ghost use mathlib.Core.Option.{none, some};
+ghost use Prim.Native.Nat.{_+_, _≤_, _<_};
+ghost use lib.ListN.{take};
+ghost use Rattle.model.specs.declared.Verdict.the-variants.{Fine};
+ghost use Rattle.model.specs.logic.Parts.{partsOf};
+ghost use Rattle.model.specs.logic.Progression.{closing};
+ghost use Rattle.model.specs.job.Layout.{constraintCount, hintCount, formulaAt, jobOf};
+ghost use Rattle.model.specs.job.Decoding.{jobVerdict};
+ghost use Rattle.model.specs.search.Node.{residuals, progressedAll, closingAll, someDead, meetAll};
+ghost use Rattle.progression.specs.Padded.{padded};
+
+mod section; // section.rt: the formula in one section
+mod row; // row.rt: the formulas in neighbouring sections
+
+// What the constraints leave after the first world, in which no action was made.
+pub fn constraints_first(job: &[u8], state: u64) -> [u64; 8]
+    requires { ⌜ jobVerdict (now job) ≡ Fine ⌝ }
+    ensures { λ r. ⌜ r ≡ padded (residuals (jobOf (now (job .entry)) .constraints) (record { state = state; made = none })) ⌝ }
+{
+    let count = access::wide(access::constraint_count(job));
+    row::first(job, 1, count, state)
+}
+
+// What the hints leave after the first world.
+pub fn hints_first(job: &[u8], state: u64) -> [u64; 8]
+    requires { ⌜ jobVerdict (now job) ≡ Fine ⌝ }
+    ensures { λ r. ⌜ r ≡ padded (residuals (jobOf (now (job .entry)) .hints) (record { state = state; made = none })) ⌝ }
+{
+    let from = 1 + access::wide(access::constraint_count(job));
+    let count = access::wide(access::hint_count(job));
+    row::first(job, from, count, state)
+}
+
+// What the constraints' residuals leave after a world.
+pub fn constraints_next(job: &[u8], rs: [u64; 8], state: u64, action: u8) -> [u64; 8]
+    requires { ⌜ (jobVerdict (now job) ≡ Fine) × (action < 64) ⌝ }
+    ensures { λ r. ⌜ r ≡ padded (progressedAll (jobOf (now (job .entry)) .constraints) (take (constraintCount (now (job .entry))) rs)
+        (record { state = state; made = some action })) ⌝ }
+{
+    let count = access::wide(access::constraint_count(job));
+    row::next(job, 1, count, rs, state, action)
+}
+
+// What the hints' residuals leave after a world.
+pub fn hints_next(job: &[u8], rs: [u64; 8], state: u64, action: u8) -> [u64; 8]
+    requires { ⌜ (jobVerdict (now job) ≡ Fine) × (action < 64) ⌝ }
+    ensures { λ r. ⌜ r ≡ padded (progressedAll (jobOf (now (job .entry)) .hints) (take (hintCount (now (job .entry))) rs)
+        (record { state = state; made = some action })) ⌝ }
+{
+    let from = 1 + access::wide(access::constraint_count(job));
+    let count = access::wide(access::hint_count(job));
+    row::next(job, from, count, rs, state, action)
+}
+
+// Whether a residual of formula i, constraints before hints, is true of the closing world.
+pub fn closes(job: &[u8], i: usize, r: u64, state: u64) -> bool
+    requires { ⌜ (jobVerdict (now job) ≡ Fine) × (i < constraintCount (now job) + hintCount (now job)) ⌝ }
+    ensures { λ b. ⌜ b ≡ closing (partsOf (formulaAt (now (job .entry)) (1 + i))) r (record { state = state; made = none }) ⌝ }
+{
+    section::closing(job, 1 + i, r, state)
+}
+
+// Whether the residuals of all constraints are true of the closing world.
+pub fn constraints_close(job: &[u8], rs: [u64; 8], state: u64) -> bool
+    requires { ⌜ jobVerdict (now job) ≡ Fine ⌝ }
+    ensures { λ b. ⌜ b ≡ closingAll (jobOf (now (job .entry)) .constraints) (take (constraintCount (now (job .entry))) rs)
+        (record { state = state; made = none }) ⌝ }
+{
+    let count = access::wide(access::constraint_count(job));
+    let mut i = 0;
+    while i < count {
+        if !closes(job, i, rs[i], state) {
+            return false;
+        }
+        i += 1;
+    }
+    true
+}
+
+// Whether one of the first so many residuals is dead.
+pub fn some_dead(rs: [u64; 8], count: usize) -> bool
+    requires { ⌜ count ≤ 8 ⌝ }
+    ensures { λ b. ⌜ b ≡ someDead (take count rs) ⌝ }
+{
+    let mut i = 0;
+    while i < count {
+        if rs[i] == 0 {
+            return true;
+        }
+        i += 1;
+    }
+    false
+}
+
+// The conjunction, entry by entry.
+pub fn met(a: [u64; 8], b: [u64; 8]) -> [u64; 8]
+    ensures { λ r. ⌜ r ≡ meetAll a b ⌝ }
+{
+    [
+        a[0] & b[0],
+        a[1] & b[1],
+        a[2] & b[2],
+        a[3] & b[3],
+        a[4] & b[4],
+        a[5] & b[5],
+        a[6] & b[6],
+        a[7] & b[7],
+    ]
+}
