@@ -1,0 +1,2 @@
+-- What the contracts of the paths cite.
+pub mod Chain
