@@ -4,7 +4,6 @@ ghost use mathlib.Core.Path.{_≡_};
 ghost use mathlib.Core.List.{_++_};
 ghost use Prim.Native.Nat.{_+_, _*_, _≤_, _<_};
 ghost use lib.ListN.{length, drop};
-ghost use Rattle.model.specs.exploration.Key.{earlier};
 ghost use Rattle.table.specs.Slots.{slotAt};
 ghost use Rattle.paths.specs.Chain.{held, stepsAt, slotPath, order, orderBy, Chained, Level};
 
