@@ -10,8 +10,7 @@ use Rattle.model.specs.job.Layout.{jobOf}
 use Rattle.model.specs.search.Node.{Node}
 use Rattle.model.specs.search.JobSystem.{startNode}
 use Rattle.dijkstra.proofs.Turning.{Ready}
-use Rattle.dijkstra.proofs.Expansion.{Expanding}
-use Rattle.dijkstra.specs.Search.{Filled, goes-on, full}
+use Rattle.dijkstra.proofs.Sending.{Expanding}
 use Rattle.table.specs.Slots.{slotAt}
 use Rattle.held.specs.Held.{sys, heldIs, heldIn, SoundTo}
 
