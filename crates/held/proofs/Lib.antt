@@ -2,3 +2,4 @@
 pub mod JobLaws
 pub mod HeldLaws
 pub mod Storing
+pub mod Lookup

@@ -1,11 +1,10 @@
 -- How the records change where a slot is stored: in place of another, behind the last, or marked as taken.
-use mathlib.Core.Path.{_≡_, refl, sym, ap, _∙_, subst}
+use mathlib.Core.Path.{_≡_, refl, sym, ap, _∙_}
 use mathlib.Core.Logic.{_≢_}
 use mathlib.Core.List.{List, [], _∷_, _++_, map}
 use Prim.Native.Nat.{ℕ, zero, suc, _+_, _*_, _≤_, _<_}
 use native.Mathlib.Numerals.{add-one}
-use native.Mathlib.Omega.{arith}
-use lib.ListN.{length, getD, set, take}
+use lib.ListN.{length, set, take}
 use lib.Seq.{take-set-lt, take-suc-set, getD-set-same, getD-set-other}
 use Rattle.model.proofs.exploration.Each.{All, all-append}
 use Rattle.dijkstra.specs.Records.{take-it, mark}
