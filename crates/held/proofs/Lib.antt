@@ -3,3 +3,4 @@ pub mod JobLaws
 pub mod HeldLaws
 pub mod Storing
 pub mod Lookup
+pub mod Chains
