@@ -4,3 +4,4 @@ pub mod HeldLaws
 pub mod Storing
 pub mod Lookup
 pub mod Chains
+pub mod Steps
