@@ -1,18 +1,20 @@
 -- The paths of slots are those of the records, and slots of a search's table are chained.
-use mathlib.Core.Path.{_≡_, refl, sym, ap, _∙_, subst}
+use mathlib.Core.Path.{_≡_, refl, sym, ap, ap₂, _∙_, subst}
 use mathlib.Core.List.{List, [], _∷_, _++_, map}
 use Prim.Native.Nat.{ℕ, zero, suc, _*_, _-_, _≤_, _<_}
 use native.Mathlib.Omega.{arith}
 use lib.ListN.{length, getD, take}
+use Rattle.model.specs.exploration.Key.{earlier}
 use Rattle.model.specs.exploration.Explore.{Entry}
 use Rattle.model.specs.search.Node.{Node}
 use Rattle.dijkstra.specs.Records.{Held, Table, pathOf}
-use Rattle.dijkstra.proofs.Invariant.{Linked, Inv, linked-steps, path-suc, steps-linked}
+use Rattle.dijkstra.specs.Search.{pathBy}
+use Rattle.dijkstra.proofs.Invariant.{Linked, Inv, linked-steps, path-suc, pathBy-suc, steps-linked}
 use Rattle.dijkstra.proofs.Chains.{path-slot}
 use Rattle.table.specs.declared.Slot.{Slot}
 use Rattle.table.specs.Slots.{slots, slotAt, noSlot}
 use Rattle.table.proofs.LookupLaws.{length-first, first-at}
-use Rattle.paths.specs.Chain.{parentAt, actionAt, stepsAt, slotPath, Chained}
+use Rattle.paths.specs.Chain.{parentAt, actionAt, stepsAt, slotPath, orderBy, Chained}
 use Rattle.held.specs.Held.{sys, heldIs, heldIn}
 use Rattle.held.proofs.HeldLaws.{held-map, all-held-at, all-held-is}
 
@@ -70,3 +72,16 @@ module _ (job : List ℕ) {m0 : Node} (n : ℕ) (t : List ℕ) {P : Entry (sys j
       let a : i < length (take n (slots t)) = omega (arith, length-first t n h) in
       let b : stepsAt (take n (slots t)) i ≡ slotAt t i .steps = ap (λ (s : Slot). s .steps) (first-at t n i l) in
       rw (held-map job n t) (path-in job (take n (slots t)) inv-map m i a (omega arith))
+
+  -- Of two ways of k steps, by slot i and action a and by slot j and action b, the order is that of the slots' paths.
+  pub order-held : n * 160 ≤ length t → (k i a j b : ℕ) → i < n → j < n → k ≡ suc (slotAt t i .steps) → k ≡ suc (slotAt t j .steps)
+      → earlier (pathBy (sys job) (heldIn job n t) k i a) (pathBy (sys job) (heldIn job n t) k j b) ≡ orderBy (take n (slots t)) i a j b
+  order-held h k i a j b l m e f =
+      let ss = take n (slots t) in
+      let d : stepsAt ss i ≡ slotAt t i .steps = ap (λ (s : Slot). s .steps) (first-at t n i l) in
+      let c : k ≡ suc (stepsAt ss i) = omega arith in
+      let p : pathBy (sys job) (heldIn job n t) k i a ≡ slotPath ss (stepsAt ss i) i ++ (a ∷ []) =
+      pathBy-suc (sys job) (heldIn job n t) (stepsAt ss i) i a c ∙ ap (λ (z : List ℕ). z ++ (a ∷ [])) (path-held h (stepsAt ss i) i l (omega arith)) in
+      let q : pathBy (sys job) (heldIn job n t) k j b ≡ slotPath ss (stepsAt ss i) j ++ (b ∷ []) =
+      pathBy-suc (sys job) (heldIn job n t) (stepsAt ss i) j b c ∙ ap (λ (z : List ℕ). z ++ (b ∷ [])) (path-held h (stepsAt ss i) j m (omega arith)) in
+      ap₂ (λ (x y : List ℕ). earlier x y) p q

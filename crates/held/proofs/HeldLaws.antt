@@ -28,6 +28,7 @@ module _ (job : List ℕ) where
   -- ---- any slots
 
   module _ (ss : List Slot) where
+    -- There are as many records as slots.
     pub length-all : length (map (heldIs job) ss) ≡ length ss
     length-all = length-map ss (heldIs job)
 

@@ -3,19 +3,23 @@ use mathlib.Core.Path.{_≡_, refl, ap, _∙_, subst}
 use mathlib.Core.Bool.{Bool, true, false}
 use mathlib.Core.Logic.{_⊎_, inl, inr}
 use mathlib.Core.List.{List, [], _∷_, List·Memᴰ, List·Memᴰ·head as here, List·Memᴰ·tail as there}
-use Prim.Native.Nat.{ℕ, zero, suc, _+_, _≤_, _<_}
+use Prim.Native.Nat.{ℕ, zero, suc, _+_, _*_, _≤_, _<_}
 use native.Mathlib.Omega.{arith}
 use lib.Dec.{eqb}
 use lib.ListN.{length, set, length-set}
 use borrow.Author.Tests.{eqb-true, eq-eqb, ne-eqb}
 use Rattle.model.specs.exploration.System.{System}
 use Rattle.model.specs.exploration.Explore.{Entry}
+use Rattle.model.specs.search.Node.{Node}
 use Rattle.model.proofs.exploration.Each.{All, all-map}
 use Rattle.model.proofs.exploration.Counting.{Apart, apart-length}
 use Rattle.dijkstra.specs.Records.{Held, Table, take-it}
 use Rattle.dijkstra.proofs.Slots.{Holds, holds-one}
 use Rattle.dijkstra.proofs.Invariant.{Linked, Inv, linked-steps, steps-linked}
 use Rattle.dijkstra.proofs.Taken.{takenIn, taken-le, taken-take}
+use Rattle.table.specs.Slots.{slotAt}
+use Rattle.held.specs.Held.{sys, heldIs, heldIn}
+use Rattle.held.proofs.HeldLaws.{length-held, held-at}
 
 module _ (S : System) where
   -- ---- the taken slots
@@ -93,3 +97,18 @@ module _ (S : System) where
         → ((j : ℕ) × (q : Held S) × Holds t j q × (q .taken ≡ false)) ⊎ (length t < places) → length t ≤ places → places ≤ 65536 → r .key .steps + 1 < 65536
     next-steps i r h y (inl o) l m = omega (arith, taken-steps i r h y, open-taken t (o .0) (o .1) (o .2) (o .3))
     next-steps i r h y (inr f) l m = omega (arith, taken-steps i r h y, taken-le S t)
+
+-- ---- the same of slots
+
+module _ (job : List ℕ) {m0 : Node} (n : ℕ) (t : List ℕ) {P : Entry (sys job) → Type 0} (inv : Inv (sys job) m0 (heldIn job n t) P) (room : n * 160 ≤ length t) where
+  -- Slot i is taken, and another is open or free: one step more has 16 bits.
+  pub next-fits : {places : ℕ} (i : ℕ) → i < n → slotAt t i .taken ≡ true → ((j : ℕ) × (j < n) × (slotAt t j .taken ≡ false)) ⊎ (n < places) → n ≤ places → places ≤ 65536
+      → slotAt t i .steps + 1 < 65536
+  unfolding heldIs
+  next-fits {places} i l y o h m =
+      next-steps (sys job) inv {places = places} i (heldIs job (slotAt t i)) (held-at job n t i l room) y (go o) (omega (arith, length-held job n t room)) m
+    where
+      go : ((j : ℕ) × (j < n) × (slotAt t j .taken ≡ false)) ⊎ (n < places)
+          → ((j : ℕ) × (q : Held (sys job)) × Holds (heldIn job n t) j q × (q .taken ≡ false)) ⊎ (length (heldIn job n t) < places)
+      go (inl p) = inl (p .0, heldIs job (slotAt t (p .0)), held-at job n t (p .0) (p .1) room, p .2)
+      go (inr p) = inr (omega (arith, length-held job n t room))
