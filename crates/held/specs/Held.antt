@@ -1,0 +1,53 @@
+-- The slots of a table as the records of a search, for a job's bytes.
+use mathlib.Core.Path.{_≡_}
+use Prim.Native.Nat.{ℕ, _*_, _≤_}
+use mathlib.Core.Option.{Option, none, some}
+use mathlib.Core.List.{List, map}
+use lib.ListN.{take}
+use Rattle.model.specs.exploration.System.{System}
+use Rattle.model.specs.job.Layout.{constraintCount, hintCount, jobOf}
+use Rattle.model.specs.search.JobSystem.{systemOf, isGoal}
+use Rattle.model.proofs.exploration.Each.{All}
+use Rattle.dijkstra.specs.Records.{Held, Table}
+use Rattle.table.specs.declared.Slot.{Slot}
+use Rattle.table.specs.declared.Found.{Found}
+use Rattle.table.specs.declared.Found.the-variants.{At, Nothing}
+use Rattle.table.specs.Slots.{slots}
+use Rattle.nodes.specs.Meaning.{nodeIs, Clean, hintsIs, CleanHints}
+
+module _ (job : List ℕ) where
+  abbrev pub sys : System
+  sys = systemOf (jobOf job)
+
+  -- the record that a slot stands for
+  unfoldable pub heldIs : Slot → Held sys
+  unfolding nodeIs hintsIs
+  heldIs s =
+      record {
+        node = nodeIs (constraintCount job) (s .node);
+        key = record { cost = s .cost; steps = s .steps };
+        hints = hintsIs (hintCount job) (s .hints);
+        parent = s .parent;
+        action = s .action;
+        taken = s .taken;
+      }
+
+  -- the first n slots of a table
+  unfoldable pub heldIn : ℕ → List ℕ → Table sys
+  unfolding heldIs slots
+  heldIn n table = map heldIs (take n (slots table))
+
+  -- What holds of every slot in use: nothing behind its last residuals, its goal mark is right, and costs are sums of 16-bit numbers.
+  pub record Sound (s : Slot) : Type 0 where
+    pub clean : Clean (constraintCount job) (s .node)
+    pub cleanHints : CleanHints (hintCount job) (s .hints)
+    pub marked : s .goal ≡ isGoal (jobOf job) (nodeIs (constraintCount job) (s .node))
+    pub summed : s .cost ≤ 65535 * s .steps
+
+  abbrev pub SoundTo : ℕ → List ℕ → Type 0
+  SoundTo n table = All Sound (take n (slots table))
+
+-- a slot's number as an option
+abbrev pub slotOption : Found → Option ℕ
+slotOption (At i) = some i
+slotOption Nothing = none
