@@ -9,12 +9,10 @@ use lib.ListN.{length, take, getD}
 use lib.Seq.{take-suc, take-length}
 use Rattle.model.specs.logic.Formula.{Formula}
 use Rattle.model.specs.job.Job.{Action, Job, actionOf}
-use Rattle.model.specs.job.Layout.{actionCount, actionAt, jobOf}
 use Rattle.model.specs.task.State.{after}
 use Rattle.model.specs.task.Plan.{stateAfter, costOf}
 use Rattle.model.specs.search.Node.{residuals, progressedAll}
 use Rattle.progression.specs.Padded.{padded}
-use Rattle.job.proofs.Accepted.{action-of}
 use Rattle.validate.specs.declared.walk.Walk.{Walk}
 use Rattle.validate.specs.Walk.{still, carried, started, reached, stepped, walkFrom, walkOf}
 
@@ -101,9 +99,3 @@ module _ (j : Job) where
       → record { facts = s; cost = w .cost + x .cost; constraints = cs; hints = hs } ≡ stepped j w a
   unfolding stepped carried reached
   step-made w a s n m x cs hs ex es p q en em = rw (p, q, es, ex, en, em)
-
--- The action that is read number by number.
-pub action-made : (bytes : List ℕ) (i k pre add del cost : ℕ) → i ≡ k → pre ≡ actionAt bytes i .pre → add ≡ actionAt bytes i .add
-    → del ≡ actionAt bytes i .del → cost ≡ actionAt bytes i .cost → k < actionCount bytes
-    → record { pre = pre; add = add; del = del; cost = cost } ≡ actionOf (jobOf bytes) k
-action-made bytes i k pre add del cost e p q r s l = rw (p, q, r, s, e) (sym (action-of bytes k l))

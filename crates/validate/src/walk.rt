@@ -2,7 +2,6 @@
 use job::access;
 use job::checks;
 use model::Verdict;
-use task::Action;
 use task::State;
 ghost use mathlib.Core.Path.{_≡_};
 ghost use Prim.Native.Nat.{_+_, _*_, _≤_, _<_};
@@ -14,7 +13,6 @@ ghost use Rattle.model.specs.job.Job.{actionOf};
 ghost use Rattle.model.specs.job.Layout.{actionCount, jobOf};
 ghost use Rattle.model.specs.job.Decoding.{jobVerdict};
 ghost use Rattle.model.specs.task.State.{applicable};
-ghost use Rattle.task.specs.Meaning.{actionIs};
 ghost use Rattle.validate.specs.Walk.{started, stepped};
 
 // What the steps made so far lead to: the facts, the summed cost, and what constraints and hints have left.
@@ -41,24 +39,6 @@ pub fn start(job: &[u8]) -> Walk
     }
 }
 
-// The action that a step names.
-fn action_of(job: &[u8], step: u8) -> Action
-    requires { ⌜ (jobVerdict (now job) ≡ Fine) × (step < actionCount (now job)) ⌝ }
-    ensures { λ r. ⌜ (actionIs r ≡ actionOf (jobOf (now (job .entry))) step) × (r .cost < 65536) ⌝ }
-{
-    let i = access::wide(step);
-    let pre = access::action_pre(job, i);
-    let add = access::action_add(job, i);
-    let del = access::action_del(job, i);
-    let cost = access::action_cost(job, i);
-    Action {
-        pre,
-        add,
-        del,
-        cost,
-    }
-}
-
 // That step i of a list is one of the job's actions, and then that it is applicable.
 pub fn check_step(job: &[u8], facts: u64, step: u8, i: usize) -> Verdict
     requires { ⌜ jobVerdict (now job) ≡ Fine ⌝ }
@@ -68,7 +48,7 @@ pub fn check_step(job: &[u8], facts: u64, step: u8, i: usize) -> Verdict
     if access::action_count(job) <= step {
         return checks::unless(false, 6, i);
     }
-    let action = action_of(job, step);
+    let action = nodes::action_of(job, step);
     let state = State { facts };
     checks::unless(state.applicable(action), 7, i)
 }
@@ -78,7 +58,7 @@ pub fn make(job: &[u8], w: Walk, step: u8) -> Walk
     requires { ⌜ (jobVerdict (now job) ≡ Fine) × (step < actionCount (now job)) × (w .cost ≤ 65535 * 65535) ⌝ }
     ensures { λ r. ⌜ (r ≡ stepped (jobOf (now (job .entry))) w step) × (r .cost ≤ w .cost + 65535) ⌝ }
 {
-    let action = action_of(job, step);
+    let action = nodes::action_of(job, step);
     let price = action.cost;
     let spent = w.cost;
     let left = w.constraints;

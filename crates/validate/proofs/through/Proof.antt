@@ -12,7 +12,7 @@ use Rattle.model.proofs.job.VerdictLaws.{inTurn-first}
 use Rattle.job.proofs.TurnLaws.{none-yet, fine-at, all-fine}
 use Rattle.validate.specs.declared.walk.Walk.{Walk}
 use Rattle.validate.specs.Walk.{started, walkOf, judged}
-use Rattle.validate.proofs.Counts.{length-actions}
+use Rattle.nodes.proofs.Fields.{length-actions}
 use Rattle.validate.proofs.Walks.{walk-none, walk-more, walk-all}
 use Rattle.validate.proofs.Verdicts.{answer-bad, answer-fine, step-checked, step-known}
 use Rattle.validate.proofs.through.Statement.{statement}

@@ -9,7 +9,7 @@ use Rattle.model.specs.task.State.{within}
 use Rattle.job.proofs.Bounds.{task-pair, task-inside}
 use Rattle.job.proofs.TurnLaws.{refused, fine, after}
 use Rattle.validate.specs.Walk.{endVerdict}
-use Rattle.validate.proofs.Counts.{length-constraints}
+use Rattle.nodes.proofs.Fields.{length-constraints}
 use borrow.Author.Needs.{needs}
 use Rattle.validate.proofs.end.check_end.Statement.{statement}
 use Rattle.validate.proofs.end.check_end.Tie as tie

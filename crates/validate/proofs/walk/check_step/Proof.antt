@@ -4,7 +4,7 @@ use Rattle.job.proofs.Accepted.{accepted-laid}
 use lib.ListN.{length}
 use Rattle.model.specs.job.Layout.{jobOf}
 use Rattle.task.specs.Meaning.{actionIs}
-use Rattle.validate.proofs.Counts.{length-actions}
+use Rattle.nodes.proofs.Fields.{length-actions}
 use Rattle.validate.proofs.Verdicts.{step-unknown, step-judged}
 use borrow.Author.Needs.{needs}
 use Rattle.validate.proofs.walk.check_step.Statement.{statement}
@@ -24,7 +24,7 @@ returns-2 c =
     let d = c .before .before .before .before in
     let e = d .before .before in
     step-judged (jobOf (e .args .job .now)) (e .args .step) _ _ _ _ (actionIs (c .before .before .action-of .result)) (c .unless2 .ensures)
-    (c .before .applicable .ensures) (c .before .before .action-of .ensures .0) (omega (arith, length-actions (e .args .job .now)))
+    (c .before .applicable .ensures) (c .before .before .action-of .ensures .acts) (omega (arith, length-actions (e .args .job .now)))
 
 pub check-step-spec : {M : Type 1} → statement M
 check-step-spec =

@@ -4,7 +4,7 @@ use Rattle.job.proofs.Accepted.{accepted-laid}
 use mathlib.Core.Path.{sym}
 use Rattle.model.specs.job.Layout.{jobOf}
 use Rattle.task.specs.Meaning.{actionIs}
-use Rattle.validate.proofs.Counts.{length-constraints, length-hints}
+use Rattle.nodes.proofs.Fields.{length-constraints, length-hints}
 use Rattle.validate.proofs.Walks.{step-made}
 use borrow.Author.Needs.{needs}
 use Rattle.validate.proofs.walk.make.Statement.{statement}
@@ -25,7 +25,7 @@ returns c =
     let x = a .before .before .before in
     let d = x .before .before in
     let b = d .args .job .now in (
-      step-made (jobOf b) (d .args .w) (d .args .step) _ _ _ (actionIs (x .action-of .result)) _ _ (x .action-of .ensures .0)
+      step-made (jobOf b) (d .args .w) (d .args .step) _ _ _ (actionIs (x .action-of .result)) _ _ (x .action-of .ensures .acts)
           (a .after .ensures) (c .before .constraints-next .ensures) (c .hints-next .ensures) (sym (length-constraints b)) (sym (length-hints b)),
       omega arith,
     )
