@@ -14,6 +14,12 @@
  *    7  read-through: a step that is not applicable                           position in the list
  *    8  read-through: a goal fact missing at the end                          0
  *    9  read-through: a rule not met                                          the lowest such rule, from 0
+ *   10  search: the table is too small                                        0
+ *   11  search: no plan, and some node was cut by a hint                      0
+ *   12  search: no plan                                                       0
+ *   13  search: the plan buffer is shorter than the plan                      the plan's length
+ *
+ * Refusals 1 to 9 leave everything lent alone. A search that gets further leaves every byte of the table zero.
  */
 #ifndef DAGZHIMO_H
 #define DAGZHIMO_H
@@ -32,6 +38,15 @@ extern "C" {
  *                   A refusal: out[0] is its place, out[1] is 0.
  * Gives 0 exactly if the job is accepted and the list is an allowed plan of it with at most 65,535 steps; otherwise a refusal, 1 to 9. */
 uint64_t dagzhimo_validate(const uint8_t *job, size_t job_len, const uint8_t *steps, size_t steps_len, uint64_t out[2]);
+
+/* Looks for the cheapest allowed plan of a job: of those the shortest, and of those the first by step numbers.
+ * job, job_len      the job's bytes
+ * table, table_len  room for the search: a node takes 160 bytes, and at most 65,536 nodes are held. What it holds before does not matter.
+ * plan, plan_len    where the plan goes, one byte a step, from the start; bytes behind it keep their values, and all do if it is refused
+ * out               a result: out[0] is the plan's cost, out[1] its number of steps. A refusal: out[0] is its place, out[1] is 0.
+ * Gives 0 and the job's plan, or a refusal: 1 to 5 or 10 to 13. */
+uint64_t dagzhimo_search(const uint8_t *job, size_t job_len, uint8_t *table, size_t table_len, uint8_t *plan, size_t plan_len,
+                         uint64_t out[2]);
 
 #ifdef __cplusplus
 }

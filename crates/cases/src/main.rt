@@ -1,0 +1,93 @@
+// Runs the cases of document 01 that are to be executed, one after the other from standard input, and prints what each gives.
+// A case is a letter and four bytes, then its bytes:
+//   s  N 0 L L  a search of the L bytes that follow (low byte first), with a plan buffer of N bytes (2, 3 or 64)
+//   v  N 0 L L  a read-through of N steps, which stand first, in the job of L bytes behind them
+//   w  N 0 V A  the rule of N bytes that follows, written back for V facts and A steps
+use libc::STDIN_FILENO;
+ghost use mathlib.Core.Path.{_≡_};
+ghost use Prim.Native.Nat.{_≤_, _<_};
+ghost use lib.ListN.{length};
+
+fn wide(x: u8) -> usize
+    ensures { λ r. ⌜ (r ≡ x) × (r < 256) ⌝ }
+{
+    x as usize
+}
+
+// A search with a table of 65,536 bytes.
+fn search(job: &[u8], plan: &mut [u8]) {
+    let mut table = [0u8; 65536];
+    let end = search::search(job, &mut table, plan);
+    report::searched(end, plan);
+}
+
+// A search with a plan buffer of 2 or 3 bytes, or of 64.
+fn search_in(job: &[u8], room: usize) {
+    if room == 2 {
+        let mut plan = [255u8; 2];
+        search(job, &mut plan);
+    } else if room == 3 {
+        let mut plan = [255u8; 3];
+        search(job, &mut plan);
+    } else {
+        let mut plan = [255u8; 64];
+        search(job, &mut plan);
+    }
+}
+
+fn write_back(rule: &[u8], facts: u8, actions: u8) {
+    let mut out = [255u8; 512];
+    let end = normal::write_back(facts, actions, rule, &mut out);
+    report::rewritten(end, &out);
+}
+
+// The case at a position of the input, and the position of the next one: the input's end where it is cut off.
+fn run(input: &[u8], at: usize) -> usize
+    requires { ⌜ at < length (now input) ⌝ }
+    ensures { λ r. ⌜ (at < r) × (r ≤ length (now (input .entry))) ⌝ }
+{
+    let size = input.len();
+    if size - at < 5 {
+        return size;
+    }
+    let kind = input[at];
+    let n = wide(input[at + 1]);
+    let low = wide(input[at + 3]);
+    let high = wide(input[at + 4]);
+    let from = at + 5;
+    if kind == b's' {
+        let end = from + low + high * 256;
+        if size < end {
+            return size;
+        }
+        search_in(&input[from..end], n);
+        return end;
+    }
+    let middle = from + n;
+    if size < middle {
+        return size;
+    }
+    if kind == b'w' {
+        write_back(&input[from..middle], input[at + 3], input[at + 4]);
+        return middle;
+    }
+    let end = middle + low + high * 256;
+    if size < end {
+        return size;
+    }
+    report::validated(validate::validate(&input[middle..end], &input[from..middle]));
+    end
+}
+
+fn run_all(input: &[u8]) {
+    let mut at = 0;
+    while at < input.len() {
+        at = run(input, at);
+    }
+}
+
+fn main() {
+    let mut input = [0u8; 8192];
+    let n = io::read_full(STDIN_FILENO, &mut input);
+    run_all(&input[..n]);
+}

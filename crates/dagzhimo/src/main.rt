@@ -1,0 +1,11 @@
+// Plans the job on standard input, of which it reads at most the first 8,192 bytes, and prints the plan or the refusal.
+use libc::STDIN_FILENO;
+
+fn main() {
+    let mut job = [0u8; 8192];
+    let n = io::read_full(STDIN_FILENO, &mut job);
+    let mut table = [0u8; 65536];
+    let mut plan = [0u8; 1024];
+    let end = search::search(&job[..n], &mut table, &mut plan);
+    report::searched(end, &plan);
+}

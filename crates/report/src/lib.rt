@@ -1,0 +1,89 @@
+// Prints what a call gave, as document 01 words it: `plan 3 16` and one step number a line, or `refused 12 0`.
+use libc::STDOUT_FILENO;
+use model::Refusal;
+use model::Rewritten;
+use model::Searched;
+use model::Validated;
+
+fn wide(x: u8) -> u64 {
+    x as u64
+}
+
+fn text(s: &[u8]) {
+    io::write_all(STDOUT_FILENO, s);
+}
+
+// A number, and what stands behind it.
+fn number(n: u64, end: u8) {
+    io::print_decimal(STDOUT_FILENO, n);
+    let behind = [end];
+    io::write_all(STDOUT_FILENO, &behind);
+}
+
+// The first n steps of a plan, one a line.
+fn steps(plan: &[u8], n: usize) {
+    let mut i = 0;
+    while i < n && i < plan.len() {
+        number(wide(plan[i]), b'\n');
+        i += 1;
+    }
+}
+
+pub fn refused(r: Refusal) {
+    text(b"refused ");
+    number(wide(r.number), b' ');
+    number(r.place as u64, b'\n');
+}
+
+// What a search gave, with the plan buffer as it is afterwards.
+pub fn searched(end: Searched, plan: &[u8]) {
+    match end {
+        Searched::Planned(cost, n) => {
+            text(b"plan ");
+            number(n as u64, b' ');
+            number(cost, b'\n');
+            steps(plan, n);
+        }
+        Searched::Refused(r) => refused(r),
+    }
+}
+
+// What a read-through gave: `passed 16 1`, the cost and the hint bits, or a refusal.
+pub fn validated(end: Validated) {
+    match end {
+        Validated::Passed(cost, bits) => {
+            text(b"passed ");
+            number(cost, b' ');
+            number(wide(bits), b'\n');
+        }
+        Validated::Refused(r) => refused(r),
+    }
+}
+
+// A space and a byte in hexadecimal.
+fn byte(x: u8) {
+    text(b" ");
+    io::print_hex(STDOUT_FILENO, wide(x), 2);
+}
+
+// The first n bytes of a buffer.
+fn bytes(buffer: &[u8], n: usize) {
+    let mut i = 0;
+    while i < n && i < buffer.len() {
+        byte(buffer[i]);
+        i += 1;
+    }
+}
+
+// What writing a rule back gave: `written 6` and the bytes, or a refusal.
+pub fn rewritten(end: Rewritten, buffer: &[u8]) {
+    match end {
+        Rewritten::Written(n) => {
+            text(b"written ");
+            number(n as u64, b':');
+            bytes(buffer, n);
+            text(b"\n");
+        }
+        Rewritten::Refused(r) => refused(r),
+    }
+}
