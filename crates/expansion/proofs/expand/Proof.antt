@@ -1,0 +1,85 @@
+use Rattle.expansion.proofs.expand.Statement.{statement}
+use Rattle.expansion.proofs.expand.Tie as tie
+use Rattle.expansion.proofs.expand.Reads as reads
+use Rattle.expansion.proofs.expand.Lts as lts
+use Rattle.expansion.proofs.follow.Reads as follow-reads
+use Rattle.job.proofs.access.action_count.Reads as action-count-reads
+use Rattle.table.proofs.slots.load.Reads as load-reads
+
+abbrev Inv-loop : tie.InvT-loop
+Inv-loop job t₀ n places i from count held₀ a₀ t held a = ?
+
+abbrev μ-loop : tie.MeasureT-loop
+μ-loop job t₀ n places i from count held₀ a₀ t held a = ?
+
+-- src/lib.rt:98:9
+load-requires : tie.Need-load-requires Inv-loop μ-loop
+load-requires c κs = ?
+
+-- src/lib.rt:99:9
+action-count-requires : tie.Need-action-count-requires Inv-loop μ-loop
+action-count-requires c κs = ?
+
+-- src/lib.rt:102:5
+loop-holds : tie.Need-loop-holds Inv-loop μ-loop
+loop-holds c = ?
+
+-- src/lib.rt:103:30
+follow-requires : tie.Need-follow-requires Inv-loop μ-loop
+follow-requires c κs = ?
+
+-- src/lib.rt:103:25
+enum-known-m : tie.Need-enum-known-m Inv-loop μ-loop
+enum-known-m c = ?
+
+-- src/lib.rt:104:13
+enum-told : tie.Need-enum-told Inv-loop μ-loop
+enum-told c = ?
+
+-- src/lib.rt:104:13
+same-length : tie.Need-same-length Inv-loop μ-loop
+same-length c = ?
+
+-- src/lib.rt:104:13
+returns : tie.Need-returns Inv-loop μ-loop
+returns c = ?
+
+-- src/lib.rt:107:9
+add-a : tie.Need-add-a Inv-loop μ-loop
+add-a c = ?
+
+-- src/lib.rt:102:5
+loop-less : tie.Need-loop-less Inv-loop μ-loop
+loop-less c = ?
+
+-- src/lib.rt:102:5
+loop-again : tie.Need-loop-again Inv-loop μ-loop
+loop-again c = ?
+
+-- src/lib.rt:92:1
+same-length-2 : tie.Need-same-length-2 Inv-loop μ-loop
+same-length-2 c = ?
+
+-- src/lib.rt:92:1
+returns-2 : tie.Need-returns-2 Inv-loop μ-loop
+returns-2 c = ?
+
+pub expand-spec : {M : Type 1} → statement M
+expand-spec =
+    tie.close
+    (tie.spec
+    Inv-loop
+    μ-loop
+    load-requires
+    action-count-requires
+    loop-holds
+    follow-requires
+    enum-known-m
+    enum-told
+    same-length
+    returns
+    add-a
+    loop-less
+    loop-again
+    same-length-2
+    returns-2)

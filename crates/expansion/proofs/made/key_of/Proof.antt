@@ -1,0 +1,22 @@
+use borrow.Author.Needs.{needs}
+use Rattle.expansion.proofs.made.key_of.Statement.{statement}
+use Rattle.expansion.proofs.made.key_of.Tie as tie
+use Rattle.expansion.proofs.made.key_of.Reads as reads
+use Rattle.expansion.proofs.made.key_of.Lts as lts
+use Rattle.nodes.proofs.cost_of.Reads as cost-of-reads
+use Rattle.task.proofs.Key.extended.Reads as extended-reads
+
+-- src/made.rt:25:18
+cost-of-requires : tie.Need-cost-of-requires
+cost-of-requires c κs = search needs
+
+-- src/made.rt:25:5
+extended-requires : tie.Need-extended-requires
+extended-requires c κs = search needs
+
+-- src/made.rt:17:1
+returns : tie.Need-returns
+returns c = ?
+
+pub key-of-spec : {M : Type 1} → statement M
+key-of-spec = tie.close (tie.spec cost-of-requires extended-requires returns)

@@ -1,0 +1,22 @@
+use borrow.Author.Needs.{needs}
+use Rattle.expansion.proofs.made.replaced.Statement.{statement}
+use Rattle.expansion.proofs.made.replaced.Tie as tie
+use Rattle.expansion.proofs.made.replaced.Reads as reads
+use Rattle.expansion.proofs.made.replaced.Lts as lts
+use Rattle.expansion.proofs.made.hints_of.Reads as hints-of-reads
+use Rattle.expansion.proofs.made.opened.Reads as opened-reads
+
+-- src/made.rt:69:9
+hints-of-requires : tie.Need-hints-of-requires
+hints-of-requires c κs = search needs
+
+-- src/made.rt:71:5
+opened-requires : tie.Need-opened-requires
+opened-requires c κs = search needs
+
+-- src/made.rt:65:1
+returns : tie.Need-returns
+returns c = ?
+
+pub replaced-spec : {M : Type 1} → statement M
+replaced-spec = tie.close (tie.spec hints-of-requires opened-requires returns)
