@@ -1,5 +1,5 @@
 -- Which records the first n slots of a table stand for: how many they are, and which is in each slot.
-use mathlib.Core.Path.{_≡_, refl, sym, ap, _∙_, subst}
+use mathlib.Core.Path.{_≡_, refl, ap, _∙_, subst}
 use mathlib.Core.Option.{some}
 use mathlib.Core.List.{List, [], _∷_, map}
 use Prim.Native.Nat.{ℕ, zero, suc, _*_, _≤_, _<_}
@@ -28,6 +28,7 @@ module _ (job : List ℕ) where
   -- ---- any slots
 
   module _ (ss : List Slot) where
+    -- There are as many records as slots.
     pub length-all : length (map (heldIs job) ss) ≡ length ss
     length-all = length-map ss (heldIs job)
 

@@ -14,7 +14,7 @@ use Rattle.nodes.proofs.Fields.{length-actions, length-constraints, length-hint
 use Rattle.held.specs.Held.{sys}
 
 module _ (job : List ℕ) where
-  -- Equality of nodes is decided, and hints are a lattice.
+  -- It meets the laws of exploration.
   pub sys-laws : Laws (sys job)
   sys-laws = job-laws (jobOf job)
 

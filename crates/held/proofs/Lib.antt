@@ -2,3 +2,6 @@
 pub mod JobLaws
 pub mod HeldLaws
 pub mod Storing
+pub mod Lookup
+pub mod Chains
+pub mod Steps

@@ -1,11 +1,10 @@
 -- How the records change where a slot is stored: in place of another, behind the last, or marked as taken.
-use mathlib.Core.Path.{_≡_, refl, sym, ap, _∙_, subst}
+use mathlib.Core.Path.{_≡_, refl, sym, ap, _∙_}
 use mathlib.Core.Logic.{_≢_}
 use mathlib.Core.List.{List, [], _∷_, _++_, map}
 use Prim.Native.Nat.{ℕ, zero, suc, _+_, _*_, _≤_, _<_}
 use native.Mathlib.Numerals.{add-one}
-use native.Mathlib.Omega.{arith}
-use lib.ListN.{length, getD, set, take}
+use lib.ListN.{length, set, take}
 use lib.Seq.{take-set-lt, take-suc-set, getD-set-same, getD-set-other}
 use Rattle.model.proofs.exploration.Each.{All, all-append}
 use Rattle.dijkstra.specs.Records.{take-it, mark}
@@ -44,10 +43,11 @@ module _ (t u : List ℕ) (j : ℕ) (s : Slot) (e : slots u ≡ set (slots t) j 
   pub slot-old : (m : ℕ) → m ≢ j → slotAt u m ≡ slotAt t m
   slot-old m d = rw e (getD-set-other (slots t) j m s noSlot d)
 
-  -- It is one of the first n slots, or the one behind them.
+  -- As one of the first n slots, it changes one of them,
   pub first-set : (n : ℕ) → j < n → take n (slots u) ≡ set (take n (slots t)) j s
   first-set n l = rw e (take-set-lt n (slots t) j s l)
 
+  -- and as the one behind them, it is one more.
   pub first-more : j * 160 + 160 ≤ length t → take (j + 1) (slots u) ≡ take j (slots t) ++ (s ∷ [])
   first-more h = rw (e, add-one) (take-suc-set (slots t) j s (slot-inside t j h))
 
@@ -60,10 +60,11 @@ module _ (job t u : List ℕ) (j : ℕ) (s : Slot) (e : slots u ≡ set (slots t
   pub append-held : j * 160 + 160 ≤ length t → heldIn job (j + 1) u ≡ heldIn job j t ++ (heldIs job s ∷ [])
   append-held h = rw (held-map job (j + 1) u, held-map job j t, first-more t u j s e h) (map-snoc (heldIs job) (take j (slots t)) s)
 
-  -- If it is sound, all slots stay sound.
+  -- If it is sound, all slots stay sound,
   pub store-sound : (n : ℕ) → j < n → Sound job s → SoundTo job n t → SoundTo job n u
   store-sound n l p h = rw (first-set t u j s e n l) (all-set (Sound job) (take n (slots t)) j s p h)
 
+  -- also where there is one more.
   pub append-sound : j * 160 + 160 ≤ length t → Sound job s → SoundTo job j t → SoundTo job (j + 1) u
   append-sound h p k = rw (first-more t u j s e h) (all-append (Sound job) (take j (slots t)) (s ∷ []) k (p, tt))
 
@@ -79,10 +80,12 @@ module _ (job : List ℕ) where
   taken-sound s h = record { clean = h .clean; cleanHints = h .cleanHints; marked = h .marked; summed = h .summed }
 
 module _ (job t u : List ℕ) (i : ℕ) (e : slots u ≡ set (slots t) i (takenSlot (slotAt t i))) (n : ℕ) (l : i < n) (h : n * 160 ≤ length t) where
+  -- Its record is taken then,
   pub mark-held : heldIn job n u ≡ mark (sys job) (heldIn job n t) i
   mark-held =
       store-held job t u i (takenSlot (slotAt t i)) e n l ∙ ap (set (heldIn job n t) i) (taken-held job (slotAt t i))
       ∙ sym (mark-is (sys job) (heldIn job n t) i (held-at job n t i l h))
 
+  -- and all slots stay sound.
   pub mark-sound : SoundTo job n t → SoundTo job n u
   mark-sound s = store-sound job t u i (takenSlot (slotAt t i)) e n l (taken-sound job (slotAt t i) (sound-at job n t s i l h)) s
