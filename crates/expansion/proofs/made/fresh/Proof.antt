@@ -1,3 +1,6 @@
+use native.Mathlib.Omega.{arith}
+use Rattle.held.proofs.JobLaws.{few-actions}
+use Rattle.expansion.proofs.Making.{opened-makes}
 use borrow.Author.Needs.{needs}
 use Rattle.expansion.proofs.made.fresh.Statement.{statement}
 use Rattle.expansion.proofs.made.fresh.Tie as tie
@@ -26,7 +29,10 @@ opened-requires c κs = search needs
 
 -- src/made.rt:54:1
 returns : tie.Need-returns
-returns c = ?
+returns c =
+    let k = c .before .before .before in
+    let s = k .before .before in
+    opened-makes (s .args .job .now) _ _ _ _ _ _ (c .opened .ensures) (k .key-of .ensures) (c .before .before .hints-of .ensures) (s .pre .2) (c .before .is-goal .ensures) (s .pre .1) (omega (arith, few-actions (s .args .job .now) (s .pre .0 .accepted)))
 
 pub fresh-spec : {M : Type 1} → statement M
 fresh-spec =

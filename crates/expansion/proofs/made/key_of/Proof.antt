@@ -1,3 +1,4 @@
+use Rattle.expansion.proofs.Making.{key-reached}
 use borrow.Author.Needs.{needs}
 use Rattle.expansion.proofs.made.key_of.Statement.{statement}
 use Rattle.expansion.proofs.made.key_of.Tie as tie
@@ -16,7 +17,9 @@ extended-requires c κs = search needs
 
 -- src/made.rt:17:1
 returns : tie.Need-returns
-returns c = ?
+returns c =
+    let s = c .before .before .before in
+    key-reached (s .args .job .now) (s .args .from) (s .args .a) _ _ (c .extended .ensures) (c .before .cost-of .ensures) (s .pre)
 
 pub key-of-spec : {M : Type 1} → statement M
 key-of-spec = tie.close (tie.spec cost-of-requires extended-requires returns)

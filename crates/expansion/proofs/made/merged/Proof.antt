@@ -1,3 +1,6 @@
+use mathlib.Core.Path.{sym, _∙_}
+use Rattle.expansion.proofs.Arrival.{extends-open, comparable}
+use Rattle.expansion.proofs.Merging.{merged-new, merged-old}
 use borrow.Author.Needs.{needs}
 use Rattle.expansion.proofs.made.merged.Statement.{statement}
 use Rattle.expansion.proofs.made.merged.Tie as tie
@@ -10,7 +13,9 @@ use Rattle.progression.proofs.met.Reads as met-reads
 
 -- src/made.rt:81:40
 hints-of-requires : tie.Need-hints-of-requires
-hints-of-requires c κs = ?
+hints-of-requires c κs =
+    let s = c .before .before .before in
+    extends-open (s .pre .0) (s .args .j) (s .pre .1 .is) (s .pre .1 .isOpen) (s .pre .1 .inside)
 
 -- src/made.rt:81:9
 met-requires : tie.Need-met-requires
@@ -18,7 +23,9 @@ met-requires c κs = search needs
 
 -- src/made.rt:89:8
 comes-first-requires : tie.Need-comes-first-requires
-comes-first-requires c κs = ?
+comes-first-requires c κs =
+    let s = c .before .before .before .before .before .before in
+    comparable (s .pre .0) (s .pre .1)
 
 -- src/made.rt:90:9
 opened-requires : tie.Need-opened-requires
@@ -30,11 +37,19 @@ opened-requires-2 c κs = search needs
 
 -- src/made.rt:75:1
 returns : tie.Need-returns
-returns c = ?
+returns c =
+    let o = c .before .before in
+    let m = o .before .before in
+    let s = m .before .before .before .before .before in
+    merged-new (s .pre .0) (s .pre .1) (m .before .hints-of .ensures) (m .met .ensures) (c .opened .ensures) (sym (o .comes-first .ensures) ∙ c .before .if1 .taken)
 
 -- src/made.rt:75:1
 returns-2 : tie.Need-returns-2
-returns-2 c = ?
+returns-2 c =
+    let o = c .before .before in
+    let m = o .before .before in
+    let s = m .before .before .before .before .before in
+    merged-old (s .pre .0) (s .pre .1) (m .before .hints-of .ensures) (m .met .ensures) (c .opened2 .ensures) (sym (o .comes-first .ensures) ∙ c .before .if1 .left)
 
 pub merged-spec : {M : Type 1} → statement M
 merged-spec =
