@@ -3,7 +3,10 @@ use mathlib.Core.Path.{_≡_, refl, ap, _∙_}
 use mathlib.Core.Bool.{Bool, true, false}
 use mathlib.Core.Option.{none, some}
 use mathlib.Core.List.{[], _∷_, _++_}
-use Prim.Native.Nat.{ℕ, suc, _≤_, _<_}
+use mathlib.Core.Logic.{⊎-elim}
+use Prim.Native.Nat.{ℕ, zero, suc, _≤_, _<_}
+use native.Mathlib.Nat.{eq-or-lt-of-le, le-of-suc-le-suc}
+use native.Mathlib.Omega.{arith}
 use lib.Dec.{ltb}
 use lib.ListN.{length, set}
 use borrow.Author.Tests.{lt-ltb, le-ltb}
@@ -81,6 +84,10 @@ module _ (S : System) where
     expand-on t u c e = rw (e, expand) refl
 
     -- A table that is full stays full.
-    pub expand-full : (t : Table S) (c : ℕ) → expand S slots t r i c ≡ full → expand S slots t r i (suc c) ≡ full
+    full-on : (t : Table S) (c : ℕ) → expand S slots t r i c ≡ full → expand S slots t r i (suc c) ≡ full
     unfolding expand
-    expand-full t c e = rw (e, expand) refl
+    full-on t c e = rw (e, expand) refl
+
+    pub expand-full : (t : Table S) (c d : ℕ) → expand S slots t r i c ≡ full → c ≤ d → expand S slots t r i d ≡ full
+    expand-full t c zero e l = let z : c ≡ 0 = omega arith in rw z at e
+    expand-full t c (suc d) e l = ⊎-elim (λ z. rw z at e) (λ m. full-on t d (expand-full t c d e (le-of-suc-le-suc m))) (eq-or-lt-of-le l)

@@ -5,3 +5,4 @@ pub mod Arrival
 pub mod Merging
 pub mod Relaxing
 pub mod Growing
+pub mod Turns

@@ -1,3 +1,9 @@
+use mathlib.Core.Path.{_≡_, refl, sym, _∙_}
+use Prim.Native.Nat.{_-_}
+use native.Mathlib.Omega.{arith}
+use lib.ListN.{length}
+use borrow.Author.Needs.{needs}
+use Rattle.expansion.proofs.Turns.{Going, going-start, going-end, going-next, going-full, going-on}
 use Rattle.expansion.proofs.expand.Statement.{statement}
 use Rattle.expansion.proofs.expand.Tie as tie
 use Rattle.expansion.proofs.expand.Reads as reads
@@ -7,18 +13,18 @@ use Rattle.job.proofs.access.action_count.Reads as action-count-reads
 use Rattle.table.proofs.slots.load.Reads as load-reads
 
 abbrev Inv-loop : tie.InvT-loop
-Inv-loop job t₀ n places i from count held₀ a₀ t held a = ?
+Inv-loop job t₀ n places i from count held₀ a₀ t held a = Going job places n t₀ i from held t a × (length t ≡ length t₀)
 
 abbrev μ-loop : tie.MeasureT-loop
-μ-loop job t₀ n places i from count held₀ a₀ t held a = ?
+μ-loop job t₀ n places i from count held₀ a₀ t held a = count - a
 
 -- src/lib.rt:98:9
 load-requires : tie.Need-load-requires Inv-loop μ-loop
-load-requires c κs = ?
+load-requires c κs = search needs
 
 -- src/lib.rt:99:9
 action-count-requires : tie.Need-action-count-requires Inv-loop μ-loop
-action-count-requires c κs = ?
+action-count-requires c κs = search needs
 
 -- src/lib.rt:102:5
 loop-holds : tie.Need-loop-holds Inv-loop μ-loop
@@ -30,15 +36,15 @@ follow-requires c κs = ?
 
 -- src/lib.rt:103:25
 enum-known-m : tie.Need-enum-known-m Inv-loop μ-loop
-enum-known-m c = ?
+enum-known-m c = search needs
 
 -- src/lib.rt:104:13
 enum-told : tie.Need-enum-told Inv-loop μ-loop
-enum-told c = ?
+enum-told c = search needs
 
 -- src/lib.rt:104:13
 same-length : tie.Need-same-length Inv-loop μ-loop
-same-length c = ?
+same-length c = search needs
 
 -- src/lib.rt:104:13
 returns : tie.Need-returns Inv-loop μ-loop
@@ -46,11 +52,11 @@ returns c = ?
 
 -- src/lib.rt:107:9
 add-a : tie.Need-add-a Inv-loop μ-loop
-add-a c = ?
+add-a c = search needs
 
 -- src/lib.rt:102:5
 loop-less : tie.Need-loop-less Inv-loop μ-loop
-loop-less c = ?
+loop-less c = search needs
 
 -- src/lib.rt:102:5
 loop-again : tie.Need-loop-again Inv-loop μ-loop
@@ -58,7 +64,7 @@ loop-again c = ?
 
 -- src/lib.rt:92:1
 same-length-2 : tie.Need-same-length-2 Inv-loop μ-loop
-same-length-2 c = ?
+same-length-2 c = search needs
 
 -- src/lib.rt:92:1
 returns-2 : tie.Need-returns-2 Inv-loop μ-loop

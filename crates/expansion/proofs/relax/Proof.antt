@@ -53,7 +53,7 @@ replaced-requires c κs =
 -- src/lib.rt:43:9
 store-requires : tie.Need-store-requires
 store-requires c κs =
-    let s = c .before .before .before .before .before .before .before .before .before .before .before in
+    let s = c .before .before .before .before .before .before .before .before .before .before in
     (bytes-slot (s .pre .0) (s .args .j) (s .pre .1), c .before .replaced .ensures .narrow)
 
 -- src/lib.rt:44:9
@@ -86,7 +86,7 @@ merged-requires c κs =
 -- src/lib.rt:48:9
 store-requires-2 : tie.Need-store-requires-2
 store-requires-2 c κs =
-    let s = c .before .before .before .before .before .before .before .before .before .before .before .before .before .before in
+    let s = c .before .before .before .before .before .before .before .before .before .before .before .before .before in
     (bytes-slot (s .pre .0) (s .args .j) (s .pre .1), c .before .merged .ensures .narrow)
 
 -- src/lib.rt:28:1
