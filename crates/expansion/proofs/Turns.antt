@@ -21,6 +21,7 @@ use Rattle.held.specs.Held.{sys, heldIs, heldIn}
 use Rattle.held.specs.Running.{Running, Busy}
 use Rattle.held.proofs.JobLaws.{sys-laws, sys-actions}
 use Rattle.held.proofs.HeldLaws.{held-is}
+use Rattle.expansion.specs.declared.Grown.{Grown}
 use Rattle.expansion.specs.declared.Grown.the-variants.{Held, Full}
 use Rattle.expansion.specs.Arrivals.{Arriving}
 use Rattle.expansion.specs.Growth.{grownIs, Grew}
@@ -78,13 +79,15 @@ module _ {job : List ℕ} {places n0 : ℕ} {t0 : List ℕ} {i : ℕ} {from : Sl
     more = cases.expand-on (sys job) places (heldIs job from) i (heldIn job n0 t0) (heldIn job n t) a (g .followed)
 
     -- The table is full, and stays so,
-    pub going-full : {u : List ℕ} → from ≡ slotAt t0 i → Grew job places next Full u → Grew job places all Full u
+    pub going-full : {r : Grown} {u : List ℕ} → from ≡ slotAt t0 i → r ≡ Full → Grew job places next r u → Grew job places all Full u
     unfolding grownIs
-    going-full e r = record {
-      grows = sym (all-from e)
-          ∙ cases.expand-full (sys job) places (heldIs job from) i (heldIn job n0 t0) (suc a) (sys job .actions) (more ∙ r .grows) (omega (arith, sys-actions job));
-      fits = tt;
-    }
+    going-full {r} {u} e d w =
+        let f : next ≡ full = w .grows ∙ ap (λ (x : Grown). grownIs job x u) d in
+        record {
+          grows = sym (all-from e)
+              ∙ cases.expand-full (sys job) places (heldIs job from) i (heldIn job n0 t0) (suc a) (sys job .actions) (more ∙ f) (omega (arith, sys-actions job));
+          fits = tt;
+        }
 
     went : Went (sys job) (sys-laws job) places (g .m0) (heldIn job n t) i (heldIs job from) (suc a) next
     went =
@@ -93,10 +96,9 @@ module _ {job : List ℕ} {places n0 : ℕ} {t0 : List ℕ} {i : ℕ} {from : Sl
         (follow-taken (sys job) (sys-laws job) places (heldIs job from)
         (subst (λ (r : search.Held (sys job)). Expanding (sys job) (g .m0) (heldIn job n t) i r a) (sym e) (g .expanding)) (omega (arith, sys-actions job)))
 
-    -- or it goes on.
-    pub going-on : {m : ℕ} {u : List ℕ} → Grew job places next (Held m) u → length u ≡ length t → Going job places n0 t0 i from m u (a + 1)
+    grown-on : {m : ℕ} {u : List ℕ} → Grew job places next (Held m) u → length u ≡ length t → Going job places n0 t0 i from m u (a + 1)
     unfolding grownIs
-    going-on {m} {u} r k =
+    grown-on {m} {u} r k =
         let w : Went (sys job) (sys-laws job) places (g .m0) (heldIn job n t) i (heldIs job from) (suc a) (goes-on (heldIn job m u)) =
         subst (Went (sys job) (sys-laws job) places (g .m0) (heldIn job n t) i (heldIs job from) (suc a)) (r .grows) went in
         rw (add-one a)
@@ -115,3 +117,7 @@ module _ {job : List ℕ} {places n0 : ℕ} {t0 : List ℕ} {i : ℕ} {from : Sl
           upTo = l;
           followed = more ∙ r .grows;
         })
+
+    -- or it goes on.
+    pub going-on : {r : Grown} {u : List ℕ} {m : ℕ} → r ≡ Held m → Grew job places next r u → length u ≡ length t → Going job places n0 t0 i from m u (a + 1)
+    going-on {r} {u} {m} d w k = grown-on (subst (λ (x : Grown). Grew job places next x u) d w) k

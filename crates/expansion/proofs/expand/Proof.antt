@@ -1,5 +1,7 @@
+use Rattle.job.proofs.Accepted.{accepted-laid}
+use Rattle.model.specs.job.Layout.{actionCount}
 use mathlib.Core.Path.{_≡_, refl, sym, _∙_}
-use Prim.Native.Nat.{_-_}
+use Prim.Native.Nat.{_-_, _<_}
 use native.Mathlib.Omega.{arith}
 use lib.ListN.{length}
 use borrow.Author.Needs.{needs}
@@ -18,21 +20,27 @@ Inv-loop job t₀ n places i from count held₀ a₀ t held a = Going job places
 abbrev μ-loop : tie.MeasureT-loop
 μ-loop job t₀ n places i from count held₀ a₀ t held a = count - a
 
+-- An action of the loop is one of the job's.
+below : (c : tie.In-loop Inv-loop μ-loop) → c .before .loop .a < actionCount (c .before .before .before .before .before .before .before .args .job .now)
+below c = omega (arith, c .before .before .action-count .ensures)
+
 -- src/lib.rt:98:9
 load-requires : tie.Need-load-requires Inv-loop μ-loop
 load-requires c κs = search needs
 
 -- src/lib.rt:99:9
 action-count-requires : tie.Need-action-count-requires Inv-loop μ-loop
-action-count-requires c κs = search needs
+action-count-requires c κs =
+    let l = accepted-laid _ (c .before .before .before .before .pre .1 .accepted) in
+    omega arith
 
 -- src/lib.rt:102:5
 loop-holds : tie.Need-loop-holds Inv-loop μ-loop
-loop-holds c = ?
+loop-holds c = (going-start (c .before .before .before .before .before .pre) (c .before .load .ensures .0), refl)
 
 -- src/lib.rt:103:30
 follow-requires : tie.Need-follow-requires Inv-loop μ-loop
-follow-requires c κs = ?
+follow-requires c κs = going-next (c .before .before .loop .inv .0) (below (c .before))
 
 -- src/lib.rt:103:25
 enum-known-m : tie.Need-enum-known-m Inv-loop μ-loop
@@ -48,7 +56,10 @@ same-length c = search needs
 
 -- src/lib.rt:104:13
 returns : tie.Need-returns Inv-loop μ-loop
-returns c = ?
+returns c =
+    let f = c .before .before .before .before in
+    let t = f .before .before in
+    going-full (t .before .loop .inv .0) (below t) (t .before .before .before .load .ensures .0) (c .enum-told .given .1) (f .follow .ensures)
 
 -- src/lib.rt:107:9
 add-a : tie.Need-add-a Inv-loop μ-loop
@@ -60,7 +71,11 @@ loop-less c = search needs
 
 -- src/lib.rt:102:5
 loop-again : tie.Need-loop-again Inv-loop μ-loop
-loop-again c = ?
+loop-again c =
+    let m = c .before in
+    let f = m .before .before .before .before in
+    let t = f .before .before in
+    (going-on (t .before .loop .inv .0) (below t) (m .m .given .1) (f .follow .ensures) (search needs), search needs)
 
 -- src/lib.rt:92:1
 same-length-2 : tie.Need-same-length-2 Inv-loop μ-loop
@@ -68,7 +83,9 @@ same-length-2 c = search needs
 
 -- src/lib.rt:92:1
 returns-2 : tie.Need-returns-2 Inv-loop μ-loop
-returns-2 c = ?
+returns-2 c =
+    let l = c .before in
+    going-end (l .loop .inv .0) (l .before .before .load .ensures .0) (omega (arith, l .before .action-count .ensures))
 
 pub expand-spec : {M : Type 1} → statement M
 expand-spec =
