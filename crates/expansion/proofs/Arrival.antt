@@ -55,22 +55,22 @@ module _ {job : List ℕ} {places n : ℕ} {t : List ℕ} {i : ℕ} {from : Slot
   pub extends-free : n < places → Extends job from a
   extends-free l = extends (inr l)
 
-  pub extends-open : (j : ℕ) {old : Slot} → old ≡ slotAt t j → old .taken ≡ false → j < n → Extends job from a
-  extends-open j e o l = extends (inl (j, l, ap (λ (s : Slot). s .taken) (sym e) ∙ o))
+  pub extends-open : (j : ℕ) → slotAt t j .taken ≡ false → j < n → Extends job from a
+  extends-open j o l = extends (inl (j, l, o))
 
-  -- ---- slot j has the arrival's key
+  -- ---- a slot has the arrival's key
 
-  module _ {j : ℕ} {old : Slot} (ties : Ties job n t from a j old) where
+  module _ {old : Slot} (ties : Ties job n t from a old) where
     steps-more : old .steps ≡ suc (from .steps)
     unfolding heldIs extend
     steps-more = ap (λ (k : Key). k .steps) (sym (ties .same))
 
-    holds : Holds (heldIn job n t) j (heldIs job old)
-    holds = held-slot j (ties .inside) ∙ ap (λ (s : Slot). some (heldIs job s)) (sym (ties .is))
+    holds : Holds (heldIn job n t) (ties .slot) (heldIs job old)
+    holds = held-slot (ties .slot) (ties .inside) ∙ ap (λ (s : Slot). some (heldIs job s)) (sym (ties .is))
 
     link : Linked (sys job) (heldIn job n t) (heldIs job old)
     unfolding heldIs
-    link = steps-linked (sys job) (x .expanding .inv) j (heldIs job old) holds steps-more
+    link = steps-linked (sys job) (x .expanding .inv) (ties .slot) (heldIs job old) holds steps-more
 
     -- Its parent has as many steps as slot i.
     pub parent-inside : old .parent < n

@@ -5,4 +5,5 @@ pub mod Arrival
 pub mod Merging
 pub mod Relaxing
 pub mod Growing
+pub mod GrowthLaws
 pub mod Turns

@@ -21,12 +21,12 @@ use Rattle.expansion.proofs.Cases.{tied-new, tied-old}
 use Rattle.expansion.proofs.Making.{met-carries, opened-makes}
 use Rattle.expansion.proofs.Arrival.{bytes-slot, sound-slot, compared}
 
-module _ {job : List ℕ} {places n : ℕ} {t : List ℕ} {i : ℕ} {from : Slot} {a : ℕ} (x : Arriving job places n t i from a) {j : ℕ} {old : Slot} (ties : Ties job n t from a j old) where
+module _ {job : List ℕ} {places n : ℕ} {t : List ℕ} {i : ℕ} {from : Slot} {a : ℕ} (x : Arriving job places n t i from a) {old : Slot} (ties : Ties job n t from a old) where
   old-sound : Sound job old
-  old-sound = subst (Sound job) (sym (ties .is)) (sound-slot x j (ties .inside))
+  old-sound = subst (Sound job) (sym (ties .is)) (sound-slot x (ties .slot) (ties .inside))
 
   old-narrow : Narrow old
-  old-narrow = subst (λ (s : Slot). Narrow s) (sym (ties .is)) (slot-narrow t j (bytes-slot x j (ties .inside)))
+  old-narrow = subst (λ (s : Slot). Narrow s) (sym (ties .is)) (slot-narrow t (ties .slot) (bytes-slot x (ties .slot) (ties .inside)))
 
   key-kept : Reaches (heldIs job old .key) (record { cost = old .cost; steps = old .steps })
   unfolding heldIs

@@ -51,26 +51,29 @@ module _ {job : List ℕ} {places n : ℕ} {t : List ℕ} {i : ℕ} {from : Slot
     unfolding heldIs
     relax-taken y = kept (relaxed-taken (sys job) (heldIn job n t) (heldIs job old) (hintsBy job from a node) i a (keyBy job from a) y)
 
-    module _ (o : old .taken ≡ false) {key : code.Key} (k : Reaches (keyBy job from a) key) where
+    module _ (o : slotAt t j .taken ≡ false) {key : code.Key} (k : Reaches (keyBy job from a) key) where
+      isOpen : old .taken ≡ false
+      isOpen = ap (λ (s : Slot). s .taken) is ∙ o
+
       -- the key of the slot
       abbrev least : Key
       least = record { cost = old .cost; steps = old .steps }
 
       pub relax-less : less (keyIs key) least ≡ true → {u : List ℕ} {s : Slot} → slots u ≡ set (slots t) j s → Makes job (better job i from a node old) s → Relaxed u
       unfolding heldIs
-      relax-less p e m = stored e m (relaxed-less (sys job) (heldIn job n t) (heldIs job old) (hintsBy job from a node) i a (keyBy job from a) o (rw (k .is) at p))
+      relax-less p e m = stored e m (relaxed-less (sys job) (heldIn job n t) (heldIs job old) (hintsBy job from a node) i a (keyBy job from a) isOpen (rw (k .is) at p))
 
       module _ (p : less (keyIs key) least ≡ false) where
         pub relax-same : sameKey (keyIs key) least ≡ true → {u : List ℕ} {s : Slot} → slots u ≡ set (slots t) j s
             → Makes job (tied (sys job) (heldIn job n t) (heldIs job old) (hintsBy job from a node) i a) s → Relaxed u
         unfolding heldIs
-        relax-same q e m = stored e m (relaxed-same (sys job) (heldIn job n t) (heldIs job old) (hintsBy job from a node) i a (keyBy job from a) o (rw (k .is) at p) (rw (k .is) at q))
+        relax-same q e m = stored e m (relaxed-same (sys job) (heldIn job n t) (heldIs job old) (hintsBy job from a node) i a (keyBy job from a) isOpen (rw (k .is) at p) (rw (k .is) at q))
 
         pub relax-more : sameKey (keyIs key) least ≡ false → Relaxed t
         unfolding heldIs
-        relax-more q = kept (relaxed-more (sys job) (heldIn job n t) (heldIs job old) (hintsBy job from a node) i a (keyBy job from a) o (rw (k .is) at p) (rw (k .is) at q))
+        relax-more q = kept (relaxed-more (sys job) (heldIn job n t) (heldIs job old) (hintsBy job from a node) i a (keyBy job from a) isOpen (rw (k .is) at p) (rw (k .is) at q))
 
       -- With an equal key the ways are compared.
-      pub tied-to : sameKey (keyIs key) least ≡ true → Ties job n t from a j old
+      pub tied-to : sameKey (keyIs key) least ≡ true → Ties job n t from a old
       unfolding heldIs
-      tied-to q = record { is = is; inside = l; isOpen = o; same = sym (k .is) ∙ same-key (keyIs key) least q }
+      tied-to q = record { slot = j; inside = l; is = is; isOpen = o; same = sym (k .is) ∙ same-key (keyIs key) least q }

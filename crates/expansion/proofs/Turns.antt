@@ -26,6 +26,7 @@ use Rattle.expansion.specs.declared.Grown.the-variants.{Held, Full}
 use Rattle.expansion.specs.Arrivals.{Arriving}
 use Rattle.expansion.specs.Growth.{grownIs, Grew}
 use Rattle.expansion.proofs.Cases as cases
+use Rattle.expansion.proofs.GrowthLaws.{grew-none, grew-held, grew-running}
 
 -- To take what is taken changes nothing.
 take-again : (S : System) (r : search.Held S) → r .taken ≡ true → take-it S r ≡ r
@@ -81,13 +82,11 @@ module _ {job : List ℕ} {places n0 : ℕ} {t0 : List ℕ} {i : ℕ} {from : Sl
     -- The table is full, and stays so,
     pub going-full : {r : Grown} {u : List ℕ} → from ≡ slotAt t0 i → r ≡ Full → Grew job places next r u → Grew job places all Full u
     unfolding grownIs
-    going-full {r} {u} e d w =
-        let f : next ≡ full = w .grows ∙ ap (λ (x : Grown). grownIs job x u) d in
-        record {
-          grows = sym (all-from e)
-              ∙ cases.expand-full (sys job) places (heldIs job from) i (heldIn job n0 t0) (suc a) (sys job .actions) (more ∙ f) (omega (arith, sys-actions job));
-          fits = tt;
-        }
+    going-full e d w = record {
+      grows = sym (all-from e)
+          ∙ cases.expand-full (sys job) places (heldIs job from) i (heldIn job n0 t0) (suc a) (sys job .actions) (more ∙ grew-none w d) (omega (arith, sys-actions job));
+      fits = tt;
+    }
 
     went : Went (sys job) (sys-laws job) places (g .m0) (heldIn job n t) i (heldIs job from) (suc a) next
     went =
@@ -96,28 +95,18 @@ module _ {job : List ℕ} {places n0 : ℕ} {t0 : List ℕ} {i : ℕ} {from : Sl
         (follow-taken (sys job) (sys-laws job) places (heldIs job from)
         (subst (λ (r : search.Held (sys job)). Expanding (sys job) (g .m0) (heldIn job n t) i r a) (sym e) (g .expanding)) (omega (arith, sys-actions job)))
 
-    grown-on : {m : ℕ} {u : List ℕ} → Grew job places next (Held m) u → length u ≡ length t → Going job places n0 t0 i from m u (a + 1)
-    unfolding grownIs
-    grown-on {m} {u} r k =
-        let w : Went (sys job) (sys-laws job) places (g .m0) (heldIn job n t) i (heldIs job from) (suc a) (goes-on (heldIn job m u)) =
-        subst (Went (sys job) (sys-laws job) places (g .m0) (heldIn job n t) i (heldIs job from) (suc a)) (r .grows) went in
+    -- or it goes on.
+    pub going-on : {r : Grown} {u : List ℕ} {m : ℕ} → r ≡ Held m → Grew job places next r u → length u ≡ length t → Going job places n0 t0 i from m u (a + 1)
+    going-on {r} {u} {m} d w k =
+        let e : next ≡ goes-on (heldIn job m u) = grew-held w d in
+        let x : Went (sys job) (sys-laws job) places (g .m0) (heldIn job n t) i (heldIs job from) (suc a) (goes-on (heldIn job m u)) =
+        subst (Went (sys job) (sys-laws job) places (g .m0) (heldIn job n t) i (heldIs job from) (suc a)) e went in
         rw (add-one a)
         (record {
           m0 = g .m0;
-          running = record {
-            accepted = g .running .accepted;
-            starts = g .running .starts;
-            room = omega (arith, g .running .room);
-            most = g .running .most;
-            used = r .fits .0;
-            sound = r .fits .1;
-          };
-          expanding = w .0;
-          inside = held-is job m u i (w .0 .held) .0;
+          running = grew-running w (g .running) d k;
+          expanding = x .0;
+          inside = held-is job m u i (x .0 .held) .0;
           upTo = l;
-          followed = more ∙ r .grows;
+          followed = more ∙ e;
         })
-
-    -- or it goes on.
-    pub going-on : {r : Grown} {u : List ℕ} {m : ℕ} → r ≡ Held m → Grew job places next r u → length u ≡ length t → Going job places n0 t0 i from m u (a + 1)
-    going-on {r} {u} {m} d w k = grown-on (subst (λ (x : Grown). Grew job places next x u) d w) k

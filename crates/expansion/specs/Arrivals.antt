@@ -78,11 +78,16 @@ module _ (job : List ℕ) where
     pub inside : i < n
     pub known : a < actionCount job
 
-  -- Slot j is open and has the key of the arrival.
-  pub record Ties (n : ℕ) (table : List ℕ) (from : Slot) (a j : ℕ) (old : Slot) : Type 0 where
-    pub is : old ≡ slotAt table j
-    pub inside : j < n
-    pub isOpen : old .taken ≡ false
+  -- the same in a table of some number of places
+  abbrev pub Arrives : ℕ → List ℕ → ℕ → Slot → ℕ → Type 0
+  Arrives n table i from a = (places : ℕ) × Arriving places n table i from a
+
+  -- A slot is open and has the key of the arrival.
+  pub record Ties (n : ℕ) (table : List ℕ) (from : Slot) (a : ℕ) (old : Slot) : Type 0 where
+    pub slot : ℕ
+    pub inside : slot < n
+    pub is : old ≡ slotAt table slot
+    pub isOpen : slotAt table slot .taken ≡ false
     pub same : keyBy from a ≡ heldIs job old .key
 
   -- Slot j of n was relaxed by the arrival, and the rest is as it was.

@@ -15,7 +15,7 @@ ghost use Rattle.nodes.specs.Meaning.{nodeIs, Clean};
 ghost use Rattle.dijkstra.specs.Search.{arrive, follow, expand};
 ghost use Rattle.held.specs.Held.{sys, heldIs, heldIn};
 ghost use Rattle.held.specs.Running.{Busy};
-ghost use Rattle.expansion.specs.Arrivals.{keyBy, hintsBy, Arriving, Relaxes};
+ghost use Rattle.expansion.specs.Arrivals.{keyBy, hintsBy, Arriving, Arrives, Relaxes};
 ghost use Rattle.expansion.specs.Growth.{Grew};
 
 // How many slots are in use, or that one more was wanted than there are.
@@ -25,14 +25,14 @@ pub enum Grown {
 }
 
 // An arrival at the node of slot j, which is held. A taken slot stays; a lesser key replaces, an equal one merges.
-fn relax(job: &[u8], t: &mut [u8], n: usize, places: usize, i: usize, from: Slot, a: u8, node: [u64; 9], j: usize)
-    requires { ⌜ Arriving (now job) places n (now t) i from a × (j < n) ⌝ }
+fn relax(job: &[u8], t: &mut [u8], n: usize, i: usize, from: Slot, a: u8, node: [u64; 9], j: usize)
+    requires { ⌜ Arrives (now job) n (now t) i from a × (j < n) ⌝ }
     ensures { λ _. ⌜ Relaxes (now (job .entry)) n (now (t .entry)) i from a node j (now (t .exit)) ⌝ }
 {
-    let old = slots::load(t, j);
-    if old.taken {
+    if slots::is_taken(t, j) {
         return;
     }
+    let old = slots::load(t, j);
     let key = made::key_of(job, from, a);
     let least = Key {
         cost: old.cost,
@@ -44,7 +44,7 @@ fn relax(job: &[u8], t: &mut [u8], n: usize, places: usize, i: usize, from: Slot
         return;
     }
     if key.same(least) {
-        let s = made::merged(job, t, n, places, i, from, a, node, j, old);
+        let s = made::merged(job, t, n, i, from, a, node, old);
         slots::store(t, j, s);
     }
 }
@@ -58,7 +58,7 @@ fn arrive(job: &[u8], t: &mut [u8], n: usize, places: usize, i: usize, from: Slo
 {
     match lookup::find(t, n, node) {
         Found::At(j) => {
-            relax(job, t, n, places, i, from, a, node, j);
+            relax(job, t, n, i, from, a, node, j);
             Grown::Held(n)
         }
         Found::Nothing => {

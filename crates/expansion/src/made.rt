@@ -11,7 +11,7 @@ ghost use Rattle.nodes.specs.Meaning.{Clean, Carries};
 ghost use Rattle.task.specs.Meaning.{keyIs};
 ghost use Rattle.dijkstra.specs.Search.{tied};
 ghost use Rattle.held.specs.Held.{sys, heldIs, heldIn, Sound};
-ghost use Rattle.expansion.specs.Arrivals.{keyBy, hintsBy, openSlot, Arriving, Extends, Reaches, Makes, Ties, newcomer, better};
+ghost use Rattle.expansion.specs.Arrivals.{openSlot, Extends, Reaches, Makes, keyBy, hintsBy, newcomer, better, Arrives, Ties};
 
 // The key of an arrival: the sum fits, since costs are sums of as many 16-bit numbers as there are steps.
 pub fn key_of(job: &[u8], from: Slot, a: u8) -> Key
@@ -72,8 +72,8 @@ pub fn replaced(job: &[u8], i: usize, from: Slot, a: u8, node: [u64; 9], key: Ke
 }
 
 // The slot of a node that is reached by an equal key: both ways' hints hold, and the way whose path comes first is kept.
-pub fn merged(job: &[u8], t: &[u8], n: usize, places: usize, i: usize, from: Slot, a: u8, node: [u64; 9], j: usize, old: Slot) -> Slot
-    requires { ⌜ Arriving (now job) places n (now t) i from a × Ties (now job) n (now t) from a j old ⌝ }
+pub fn merged(job: &[u8], t: &[u8], n: usize, i: usize, from: Slot, a: u8, node: [u64; 9], old: Slot) -> Slot
+    requires { ⌜ Arrives (now job) n (now t) i from a × Ties (now job) n (now t) from a old ⌝ }
     ensures { λ r. ⌜ Makes (now (job .entry)) (tied (sys (now (job .entry))) (heldIn (now (job .entry)) n (now (t .entry))) (heldIs (now (job .entry)) old)
         (hintsBy (now (job .entry)) from a node) i a) r ⌝ }
 {

@@ -26,7 +26,7 @@ relax-requires c κs =
     let j = c .before .before in
     let f = j .before .before in
     let s = f .before .before .before .before in
-    (s .pre .0, find-inside (s .args .t .now) (s .args .node) (s .args .n) _ _ (f .find .ensures) (j .j .given .1))
+    ((s .args .places, s .pre .0), find-inside (s .args .t .now) (s .args .node) (s .args .n) _ _ (f .find .ensures) (j .j .given .1))
 
 -- src/lib.rt:65:16
 enum-told : tie.Need-enum-told

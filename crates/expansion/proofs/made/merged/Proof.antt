@@ -15,7 +15,7 @@ use Rattle.progression.proofs.met.Reads as met-reads
 hints-of-requires : tie.Need-hints-of-requires
 hints-of-requires c κs =
     let s = c .before .before .before in
-    extends-open (s .pre .0) (s .args .j) (s .pre .1 .is) (s .pre .1 .isOpen) (s .pre .1 .inside)
+    extends-open (s .pre .0 .1) (s .pre .1 .slot) (s .pre .1 .isOpen) (s .pre .1 .inside)
 
 -- src/made.rt:81:9
 met-requires : tie.Need-met-requires
@@ -25,7 +25,7 @@ met-requires c κs = search needs
 comes-first-requires : tie.Need-comes-first-requires
 comes-first-requires c κs =
     let s = c .before .before .before .before .before .before in
-    comparable (s .pre .0) (s .pre .1)
+    comparable (s .pre .0 .1) (s .pre .1)
 
 -- src/made.rt:90:9
 opened-requires : tie.Need-opened-requires
@@ -41,7 +41,7 @@ returns c =
     let o = c .before .before in
     let m = o .before .before in
     let s = m .before .before .before .before .before in
-    merged-new (s .pre .0) (s .pre .1) (m .before .hints-of .ensures) (m .met .ensures) (c .opened .ensures) (sym (o .comes-first .ensures) ∙ c .before .if1 .taken)
+    merged-new (s .pre .0 .1) (s .pre .1) (m .before .hints-of .ensures) (m .met .ensures) (c .opened .ensures) (sym (o .comes-first .ensures) ∙ c .before .if1 .taken)
 
 -- src/made.rt:75:1
 returns-2 : tie.Need-returns-2
@@ -49,7 +49,7 @@ returns-2 c =
     let o = c .before .before in
     let m = o .before .before in
     let s = m .before .before .before .before .before in
-    merged-old (s .pre .0) (s .pre .1) (m .before .hints-of .ensures) (m .met .ensures) (c .opened2 .ensures) (sym (o .comes-first .ensures) ∙ c .before .if1 .left)
+    merged-old (s .pre .0 .1) (s .pre .1) (m .before .hints-of .ensures) (m .met .ensures) (c .opened2 .ensures) (sym (o .comes-first .ensures) ∙ c .before .if1 .left)
 
 pub merged-spec : {M : Type 1} → statement M
 merged-spec =
