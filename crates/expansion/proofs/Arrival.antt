@@ -1,5 +1,5 @@
 -- What follows where an action from slot i is to be followed: the arrival's key fits, and its path can be compared with that of a slot with an equal key.
-use mathlib.Core.Path.{_≡_, refl, sym, ap, _∙_}
+use mathlib.Core.Path.{_≡_, sym, ap, _∙_}
 use mathlib.Core.Bool.{true, false}
 use mathlib.Core.Logic.{_⊎_, inl, inr}
 use mathlib.Core.Option.{some}

@@ -1,10 +1,8 @@
 -- How the table grows: by one arrival, by one action, and by all.
-use mathlib.Core.Path.{_≡_, refl, sym, ap, _∙_, subst}
-use mathlib.Core.Option.{none, some}
+use mathlib.Core.Path.{_≡_, sym, ap, _∙_}
 use mathlib.Core.Bool.{true, false}
 use mathlib.Core.List.{List, [], _∷_, _++_}
-use Prim.Native.Nat.{ℕ, suc, _+_, _*_, _≤_, _<_}
-use native.Mathlib.Numerals.{add-one}
+use Prim.Native.Nat.{ℕ, _+_, _*_, _≤_, _<_}
 use native.Mathlib.Omega.{arith}
 use lib.ListN.{length, set, take}
 use Rattle.model.specs.job.Layout.{constraintCount, jobOf}
@@ -12,14 +10,14 @@ use Rattle.model.specs.search.JobSystem.{nextNode}
 use Rattle.table.specs.declared.Slot.{Slot}
 use Rattle.table.specs.declared.Found.{Found}
 use Rattle.table.specs.declared.Found.the-variants.{At, Nothing}
-use Rattle.table.specs.Slots.{slots, slotAt}
+use Rattle.table.specs.Slots.{slots}
 use Rattle.table.specs.Lookup.{findIn}
 use Rattle.nodes.specs.declared.Reached.{Reached}
 use Rattle.nodes.specs.Meaning.{nodeIs, Clean, Leads}
 use Rattle.nodes.proofs.Arrivals.{leads-some, leads-none}
 use Rattle.dijkstra.specs.Records as search
-use Rattle.dijkstra.specs.Search.{Filled, goes-on, full, arrive, follow, expand}
-use Rattle.held.specs.Held.{sys, heldIs, heldIn, Sound, SoundTo, slotOption}
+use Rattle.dijkstra.specs.Search.{Filled, goes-on, arrive, follow}
+use Rattle.held.specs.Held.{sys, heldIs, heldIn, slotOption}
 use Rattle.held.proofs.JobLaws.{few-constraints}
 use Rattle.held.proofs.HeldLaws.{length-held}
 use Rattle.held.proofs.Storing.{append-held, append-sound}
@@ -49,7 +47,7 @@ module _ {job : List ℕ} {places n : ℕ} {t : List ℕ} {i : ℕ} {from : Slot
   }
 
   -- The node is new: it has the next slot, if there is one,
-  pub grew-new : {u : List ℕ} {s : Slot} → f ≡ Nothing → slots u ≡ set (slots t) n s → Makes job (newcomer job i from a node) s → n < places → Grew job places arrived (Held (n + 1)) u
+  pub grew-new : {u : List ℕ} {s : Slot} → f ≡ Nothing → slots u ≡ set (slots t) n s → Makes job (newcomer job i from a node node) s → n < places → Grew job places arrived (Held (n + 1)) u
   unfolding grownIs
   grew-new {u} {s} e d m l =
       let h : n * 160 + 160 ≤ length t = omega (arith, x .running .room) in

@@ -1,5 +1,5 @@
 -- Laws of the slots that arrivals make: what they stand for, and that they fit.
-use mathlib.Core.Path.{_≡_, refl, ap, _∙_}
+use mathlib.Core.Path.{_≡_, ap, _∙_}
 use mathlib.Core.Bool.{Bool, false}
 use mathlib.Core.List.{List}
 use Prim.Native.Nat.{ℕ, suc, _+_, _≤_, _<_}
@@ -13,8 +13,7 @@ use Rattle.task.specs.Meaning.{keyIs}
 use Rattle.table.specs.declared.Slot.{Slot}
 use Rattle.nodes.specs.Meaning.{nodeIs, Clean, hintsIs, CleanHints, Costs, Carries}
 use Rattle.nodes.proofs.Hints.{hints-met, clean-met}
-use Rattle.dijkstra.specs.Records.{Held}
-use Rattle.held.specs.Held.{sys, heldIs, Sound}
+use Rattle.held.specs.Held.{heldIs}
 use Rattle.expansion.specs.Arrivals.{openSlot, keyBy, Extends, Reaches, Makes}
 
 -- The conjunction of a slot's hint residuals and an arrival's.

@@ -1,5 +1,5 @@
 -- The slot that an arrival with an equal key makes: both ways' hint residuals are conjoined, and the way whose path comes first is kept.
-use mathlib.Core.Path.{_≡_, refl, sym, ap, _∙_, subst}
+use mathlib.Core.Path.{_≡_, refl, sym, _∙_, subst}
 use mathlib.Core.Bool.{true, false}
 use mathlib.Core.List.{List}
 use Prim.Native.Nat.{ℕ, _<_}

@@ -1,5 +1,5 @@
 -- What becomes of slot j, whose node an action leads to.
-use mathlib.Core.Path.{_≡_, refl, sym, ap, _∙_}
+use mathlib.Core.Path.{_≡_, sym, ap, _∙_}
 use mathlib.Core.Bool.{true, false}
 use mathlib.Core.List.{List}
 use Prim.Native.Nat.{ℕ, _<_}
@@ -15,7 +15,7 @@ use Rattle.table.specs.declared.Slot.{Slot}
 use Rattle.table.specs.Slots.{slots, slotAt}
 use Rattle.held.specs.Held.{sys, heldIs, heldIn}
 use Rattle.held.proofs.Storing.{store-held, store-sound}
-use Rattle.expansion.specs.Arrivals.{keyBy, hintsBy, better, Arriving, Reaches, Makes, Ties, Relaxes}
+use Rattle.expansion.specs.Arrivals.{keyBy, hintsBy, newcomer, Arriving, Reaches, Makes, Ties, Relaxes}
 use Rattle.expansion.proofs.Cases.{relaxed-taken, relaxed-less, relaxed-same, relaxed-more}
 use Rattle.expansion.proofs.Arrival.{held-slot}
 
@@ -59,7 +59,7 @@ module _ {job : List ℕ} {places n : ℕ} {t : List ℕ} {i : ℕ} {from : Slot
       abbrev least : Key
       least = record { cost = old .cost; steps = old .steps }
 
-      pub relax-less : less (keyIs key) least ≡ true → {u : List ℕ} {s : Slot} → slots u ≡ set (slots t) j s → Makes job (better job i from a node old) s → Relaxed u
+      pub relax-less : less (keyIs key) least ≡ true → {u : List ℕ} {s : Slot} → slots u ≡ set (slots t) j s → Makes job (newcomer job i from a node (old .node)) s → Relaxed u
       unfolding heldIs
       relax-less p e m = stored e m (relaxed-less (sys job) (heldIn job n t) (heldIs job old) (hintsBy job from a node) i a (keyBy job from a) isOpen (rw (k .is) at p))
 

@@ -13,7 +13,7 @@ use Rattle.table.specs.declared.Slot.{Slot}
 use Rattle.table.specs.Slots.{slotAt}
 use Rattle.dijkstra.specs.Records as search
 use Rattle.dijkstra.specs.Records.{take-it}
-use Rattle.dijkstra.specs.Search.{Filled, goes-on, full, follow, expand}
+use Rattle.dijkstra.specs.Search.{Filled, goes-on, follow, expand}
 use Rattle.dijkstra.proofs.Sending.{Expanding}
 use Rattle.dijkstra.proofs.Following.{Went}
 use Rattle.dijkstra.proofs.Expansion.{follow-taken}

@@ -1,11 +1,11 @@
 -- One arrival: what is known before an action is followed, and what the slots that it makes stand for.
 use mathlib.Core.Path.{_≡_}
-use mathlib.Core.Bool.{Bool, true, false}
+use mathlib.Core.Bool.{Bool, false}
 use mathlib.Core.List.{List}
 use Prim.Native.Nat.{ℕ, _+_, _*_, _≤_, _<_}
 use lib.ListN.{set}
 use Rattle.model.specs.declared.Verdict.the-variants.{Fine}
-use Rattle.model.specs.exploration.Key.{Key, extend, sameKey}
+use Rattle.model.specs.exploration.Key.{Key, extend}
 use Rattle.model.specs.job.Job.{actionOf}
 use Rattle.model.specs.job.Layout.{actionCount, constraintCount, hintCount, jobOf}
 use Rattle.model.specs.job.Decoding.{jobVerdict}
@@ -60,15 +60,10 @@ module _ (job : List ℕ) where
     abbrev pub hintsBy : ℕ → List ℕ → List ℕ
     hintsBy a node = carryHints (jobOf job) (hintsIs (hintCount job) (from .hints)) (nodeIs (constraintCount job) node) a
 
-  -- the record of a new node
-  abbrev pub newcomer : ℕ → Slot → ℕ → List ℕ → Held (sys job)
-  newcomer i from a node =
-      record { node = nodeIs (constraintCount job) node; key = keyBy from a; hints = hintsBy from a node; parent = i; action = a; taken = false }
-
-  -- the record of a node that is reached by a lesser key
-  abbrev pub better : ℕ → Slot → ℕ → List ℕ → Slot → Held (sys job)
-  better i from a node old =
-      record { node = nodeIs (constraintCount job) (old .node); key = keyBy from a; hints = hintsBy from a node; parent = i; action = a; taken = false }
+  -- the record that it makes by itself, at a node that is held as the array `kept`
+  abbrev pub newcomer : ℕ → Slot → ℕ → List ℕ → List ℕ → Held (sys job)
+  newcomer i from a node kept =
+      record { node = nodeIs (constraintCount job) kept; key = keyBy from a; hints = hintsBy from a node; parent = i; action = a; taken = false }
 
   -- The record of slot i, which is that of `from`, is being expanded: the actions below a were followed, and a is next.
   pub record Arriving (places n : ℕ) (table : List ℕ) (i : ℕ) (from : Slot) (a : ℕ) : Type 0 where

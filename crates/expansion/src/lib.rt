@@ -1,14 +1,13 @@
 // All arrivals from one slot of the table: each action is followed in order, and what it leads to is held.
 mod made; // made.rt: the slots that arrivals make
+
 use job::access;
 use table::Found;
 use table::Slot;
 use table::lookup;
 use table::slots;
 use task::Key;
-ghost use mathlib.Core.Path.{_≡_};
 ghost use Prim.Native.Nat.{_<_};
-ghost use lib.ListN.{set};
 ghost use Rattle.model.specs.job.Layout.{constraintCount};
 ghost use Rattle.table.specs.Slots.{slotAt};
 ghost use Rattle.nodes.specs.Meaning.{nodeIs, Clean};
@@ -50,7 +49,16 @@ fn relax(job: &[u8], t: &mut [u8], n: usize, i: usize, from: Slot, a: u8, node: 
 }
 
 // An arrival at a node, which is looked up.
-fn arrive(job: &[u8], t: &mut [u8], n: usize, places: usize, i: usize, from: Slot, a: u8, node: [u64; 9]) -> Grown
+fn arrive(
+    job: &[u8],
+    t: &mut [u8],
+    n: usize,
+    places: usize,
+    i: usize,
+    from: Slot,
+    a: u8,
+    node: [u64; 9],
+) -> Grown
     requires { ⌜ Arriving (now job) places n (now t) i from a × Clean (constraintCount (now job)) node ⌝ }
     ensures { λ r. ⌜ Grew (now (job .entry)) places
         (arrive (sys (now (job .entry))) places (heldIn (now (job .entry)) n (now (t .entry))) (nodeIs (constraintCount (now (job .entry))) node)

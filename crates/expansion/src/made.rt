@@ -4,14 +4,11 @@ use task::Key;
 ghost use mathlib.Core.Path.{_≡_};
 ghost use mathlib.Core.Bool.{false};
 ghost use Prim.Native.Nat.{_<_};
-ghost use Rattle.model.specs.exploration.Key.{sameKey};
 ghost use Rattle.model.specs.job.Layout.{constraintCount, hintCount};
-ghost use Rattle.table.specs.Slots.{slotAt, Narrow};
 ghost use Rattle.nodes.specs.Meaning.{Clean, Carries};
-ghost use Rattle.task.specs.Meaning.{keyIs};
 ghost use Rattle.dijkstra.specs.Search.{tied};
 ghost use Rattle.held.specs.Held.{sys, heldIs, heldIn, Sound};
-ghost use Rattle.expansion.specs.Arrivals.{openSlot, Extends, Reaches, Makes, keyBy, hintsBy, newcomer, better, Arrives, Ties};
+ghost use Rattle.expansion.specs.Arrivals.{openSlot, Extends, Reaches, Makes, keyBy, hintsBy, newcomer, Arrives, Ties};
 
 // The key of an arrival: the sum fits, since costs are sums of as many 16-bit numbers as there are steps.
 pub fn key_of(job: &[u8], from: Slot, a: u8) -> Key
@@ -53,7 +50,7 @@ fn opened(node: [u64; 9], hints: [u64; 8], key: Key, parent: u64, action: u64, g
 // The slot of a new node.
 pub fn fresh(job: &[u8], i: usize, from: Slot, a: u8, node: [u64; 9]) -> Slot
     requires { ⌜ Extends (now job) from a × (i < 65536) × Clean (constraintCount (now job)) node ⌝ }
-    ensures { λ r. ⌜ Makes (now (job .entry)) (newcomer (now (job .entry)) i from a node) r ⌝ }
+    ensures { λ r. ⌜ Makes (now (job .entry)) (newcomer (now (job .entry)) i from a node node) r ⌝ }
 {
     let key = key_of(job, from, a);
     let hints = hints_of(job, from, a, node);
@@ -62,9 +59,17 @@ pub fn fresh(job: &[u8], i: usize, from: Slot, a: u8, node: [u64; 9]) -> Slot
 }
 
 // The slot of a node that is reached by a lesser key: the node is the old one, so it is a goal if that was.
-pub fn replaced(job: &[u8], i: usize, from: Slot, a: u8, node: [u64; 9], key: Key, old: Slot) -> Slot
+pub fn replaced(
+    job: &[u8],
+    i: usize,
+    from: Slot,
+    a: u8,
+    node: [u64; 9],
+    key: Key,
+    old: Slot,
+) -> Slot
     requires { ⌜ Extends (now job) from a × (i < 65536) × Reaches (keyBy (now job) from a) key × Sound (now job) old ⌝ }
-    ensures { λ r. ⌜ Makes (now (job .entry)) (better (now (job .entry)) i from a node old) r ⌝ }
+    ensures { λ r. ⌜ Makes (now (job .entry)) (newcomer (now (job .entry)) i from a node (old .node)) r ⌝ }
 {
     let hints = hints_of(job, from, a, node);
     let same = old.node;
@@ -72,7 +77,16 @@ pub fn replaced(job: &[u8], i: usize, from: Slot, a: u8, node: [u64; 9], key: Ke
 }
 
 // The slot of a node that is reached by an equal key: both ways' hints hold, and the way whose path comes first is kept.
-pub fn merged(job: &[u8], t: &[u8], n: usize, i: usize, from: Slot, a: u8, node: [u64; 9], old: Slot) -> Slot
+pub fn merged(
+    job: &[u8],
+    t: &[u8],
+    n: usize,
+    i: usize,
+    from: Slot,
+    a: u8,
+    node: [u64; 9],
+    old: Slot,
+) -> Slot
     requires { ⌜ Arrives (now job) n (now t) i from a × Ties (now job) n (now t) from a old ⌝ }
     ensures { λ r. ⌜ Makes (now (job .entry)) (tied (sys (now (job .entry))) (heldIn (now (job .entry)) n (now (t .entry))) (heldIs (now (job .entry)) old)
         (hintsBy (now (job .entry)) from a node) i a) r ⌝ }

@@ -1,6 +1,7 @@
+-- `expand` follows the actions in order: those below a came to the table at hand.
 use Rattle.job.proofs.Accepted.{accepted-laid}
 use Rattle.model.specs.job.Layout.{actionCount}
-use mathlib.Core.Path.{_≡_, refl, sym, _∙_}
+use mathlib.Core.Path.{_≡_, refl}
 use Prim.Native.Nat.{_-_, _<_}
 use native.Mathlib.Omega.{arith}
 use lib.ListN.{length}
@@ -8,11 +9,6 @@ use borrow.Author.Needs.{needs}
 use Rattle.expansion.proofs.Turns.{Going, going-start, going-end, going-next, going-full, going-on}
 use Rattle.expansion.proofs.expand.Statement.{statement}
 use Rattle.expansion.proofs.expand.Tie as tie
-use Rattle.expansion.proofs.expand.Reads as reads
-use Rattle.expansion.proofs.expand.Lts as lts
-use Rattle.expansion.proofs.follow.Reads as follow-reads
-use Rattle.job.proofs.access.action_count.Reads as action-count-reads
-use Rattle.table.proofs.slots.load.Reads as load-reads
 
 abbrev Inv-loop : tie.InvT-loop
 Inv-loop job t₀ n places i from count held₀ a₀ t held a = Going job places n t₀ i from held t a × (length t ≡ length t₀)
@@ -24,52 +20,23 @@ abbrev μ-loop : tie.MeasureT-loop
 below : (c : tie.In-loop Inv-loop μ-loop) → c .before .loop .a < actionCount (c .before .before .before .before .before .before .before .args .job .now)
 below c = omega (arith, c .before .before .action-count .ensures)
 
--- src/lib.rt:98:9
-load-requires : tie.Need-load-requires Inv-loop μ-loop
-load-requires c κs = search needs
-
--- src/lib.rt:99:9
 action-count-requires : tie.Need-action-count-requires Inv-loop μ-loop
 action-count-requires c κs =
     let l = accepted-laid _ (c .before .before .before .before .pre .1 .accepted) in
     omega arith
 
--- src/lib.rt:102:5
 loop-holds : tie.Need-loop-holds Inv-loop μ-loop
 loop-holds c = (going-start (c .before .before .before .before .before .pre) (c .before .load .ensures .0), refl)
 
--- src/lib.rt:103:30
 follow-requires : tie.Need-follow-requires Inv-loop μ-loop
 follow-requires c κs = going-next (c .before .before .loop .inv .0) (below (c .before))
 
--- src/lib.rt:103:25
-enum-known-m : tie.Need-enum-known-m Inv-loop μ-loop
-enum-known-m c = search needs
-
--- src/lib.rt:104:13
-enum-told : tie.Need-enum-told Inv-loop μ-loop
-enum-told c = search needs
-
--- src/lib.rt:104:13
-same-length : tie.Need-same-length Inv-loop μ-loop
-same-length c = search needs
-
--- src/lib.rt:104:13
 returns : tie.Need-returns Inv-loop μ-loop
 returns c =
     let f = c .before .before .before .before in
     let t = f .before .before in
     going-full (t .before .loop .inv .0) (below t) (t .before .before .before .load .ensures .0) (c .enum-told .given .1) (f .follow .ensures)
 
--- src/lib.rt:107:9
-add-a : tie.Need-add-a Inv-loop μ-loop
-add-a c = search needs
-
--- src/lib.rt:102:5
-loop-less : tie.Need-loop-less Inv-loop μ-loop
-loop-less c = search needs
-
--- src/lib.rt:102:5
 loop-again : tie.Need-loop-again Inv-loop μ-loop
 loop-again c =
     let m = c .before in
@@ -77,11 +44,6 @@ loop-again c =
     let t = f .before .before in
     (going-on (t .before .loop .inv .0) (below t) (m .m .given .1) (f .follow .ensures) (search needs), search needs)
 
--- src/lib.rt:92:1
-same-length-2 : tie.Need-same-length-2 Inv-loop μ-loop
-same-length-2 c = search needs
-
--- src/lib.rt:92:1
 returns-2 : tie.Need-returns-2 Inv-loop μ-loop
 returns-2 c =
     let l = c .before in
@@ -93,16 +55,16 @@ expand-spec =
     (tie.spec
     Inv-loop
     μ-loop
-    load-requires
+    (λ c κs. search needs)
     action-count-requires
     loop-holds
     follow-requires
-    enum-known-m
-    enum-told
-    same-length
+    (λ c. search needs)
+    (λ c. search needs)
+    (λ c. search needs)
     returns
-    add-a
-    loop-less
+    (λ c. search needs)
+    (λ c. search needs)
     loop-again
-    same-length-2
+    (λ c. search needs)
     returns-2)

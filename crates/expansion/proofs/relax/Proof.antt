@@ -29,8 +29,7 @@ replaced-requires c κs =
     let k = c .before .before in
     let d = k .before in
     let s = d .before .before .before .before .before .before .before in
-    let x = s .pre .0 .1 in
-    (
+    let x = s .pre .0 .1 in (
       extends-open x (s .args .j) (isOpen d) (s .pre .1),
       omega (arith, x .running .used, x .running .most, x .inside),
       k .key-of .ensures,
