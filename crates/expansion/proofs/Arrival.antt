@@ -23,6 +23,7 @@ use Rattle.held.proofs.Steps.{next-fits}
 use Rattle.expansion.specs.Arrivals.{Arriving, Extends, Ties}
 
 module _ {job : List ℕ} {places n : ℕ} {t : List ℕ} {i : ℕ} {from : Slot} {a : ℕ} (x : Arriving job places n t i from a) where
+  -- There is room for the slots in use, each holds its record, and each is sound.
   pub room : n * 160 ≤ length t
   room = omega (arith, x .running .room, x .running .used)
 
@@ -35,6 +36,7 @@ module _ {job : List ℕ} {places n : ℕ} {t : List ℕ} {i : ℕ} {from : Slot
   pub sound-slot : (j : ℕ) → j < n → Sound job (slotAt t j)
   sound-slot j l = sound-at job n t (x .running .sound) j l room
 
+  -- Slot i holds the record of `from`, so it has the same key.
   source : heldIs job from ≡ heldIs job (slotAt t i)
   source = held-is job n t i (x .expanding .held) .1
 
@@ -73,7 +75,7 @@ module _ {job : List ℕ} {places n : ℕ} {t : List ℕ} {i : ℕ} {from : Slot
     link = steps-linked (sys job) (x .expanding .inv) (ties .slot) (heldIs job old) holds steps-more
 
     -- Its parent has as many steps as slot i.
-    pub parent-inside : old .parent < n
+    parent-inside : old .parent < n
     unfolding heldIs
     parent-inside = held-is job n t (old .parent) (link .held) .0
 

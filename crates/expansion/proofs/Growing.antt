@@ -1,4 +1,4 @@
--- How the table grows: by one arrival, by one action, and by all.
+-- How the table grows by one arrival, and by one action.
 use mathlib.Core.Path.{_≡_, sym, ap, _∙_}
 use mathlib.Core.Bool.{true, false}
 use mathlib.Core.List.{List, [], _∷_, _++_}

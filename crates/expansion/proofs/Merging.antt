@@ -1,6 +1,6 @@
 -- The slot that an arrival with an equal key makes: both ways' hint residuals are conjoined, and the way whose path comes first is kept.
 use mathlib.Core.Path.{_≡_, refl, sym, _∙_, subst}
-use mathlib.Core.Bool.{true, false}
+use mathlib.Core.Bool.{Bool, true, false}
 use mathlib.Core.List.{List}
 use Prim.Native.Nat.{ℕ, _<_}
 use native.Mathlib.Omega.{arith}
@@ -22,6 +22,7 @@ use Rattle.expansion.proofs.Making.{met-carries, opened-makes}
 use Rattle.expansion.proofs.Arrival.{bytes-slot, sound-slot, compared}
 
 module _ {job : List ℕ} {places n : ℕ} {t : List ℕ} {i : ℕ} {from : Slot} {a : ℕ} (x : Arriving job places n t i from a) {old : Slot} (ties : Ties job n t from a old) where
+  -- The old slot is sound and within its widths, and its key is kept.
   old-sound : Sound job old
   old-sound = subst (Sound job) (sym (ties .is)) (sound-slot x (ties .slot) (ties .inside))
 
@@ -47,15 +48,17 @@ module _ {job : List ℕ} {places n : ℕ} {t : List ℕ} {i : ℕ} {from : Slot
         (met-carries (hintCount job) (old .hints) g met (old-sound .cleanHints) carried (few-hints job (x .running .accepted))) (old-sound .clean) (old-sound .marked) l m
 
     -- The new way comes first,
-    pub merged-new : {s : Slot} → s ≡ stored hints i a → orderBy (held t n) i a (old .parent) (old .action) ≡ true → Makes job (tied (sys job) (heldIn job n t) (heldIs job old) h i a) s
+    pub merged-new : {s : Slot} {b : Bool} → s ≡ stored hints i a → b ≡ orderBy (held t n) i a (old .parent) (old .action) → b ≡ true
+        → Makes job (tied (sys job) (heldIn job n t) (heldIs job old) h i a) s
     unfolding heldIs
-    merged-new e o =
-        rw (tied-new (sys job) (heldIn job n t) (heldIs job old) h i a (compared x ties ∙ o))
+    merged-new e q o =
+        rw (tied-new (sys job) (heldIn job n t) (heldIs job old) h i a (compared x ties ∙ sym q ∙ o))
         (makes-merged i a e (omega (arith, x .running .most, x .running .used, x .inside)) (omega (arith, x .known, few-actions job (x .running .accepted))))
 
-    -- or the old one does not come second.
-    pub merged-old : {s : Slot} → s ≡ stored hints (old .parent) (old .action) → orderBy (held t n) i a (old .parent) (old .action) ≡ false → Makes job (tied (sys job) (heldIn job n t) (heldIs job old) h i a) s
+    -- or it does not, and the old one is kept.
+    pub merged-old : {s : Slot} {b : Bool} → s ≡ stored hints (old .parent) (old .action) → b ≡ orderBy (held t n) i a (old .parent) (old .action) → b ≡ false
+        → Makes job (tied (sys job) (heldIn job n t) (heldIs job old) h i a) s
     unfolding heldIs
-    merged-old e o =
-        rw (tied-old (sys job) (heldIn job n t) (heldIs job old) h i a (compared x ties ∙ o))
+    merged-old e q o =
+        rw (tied-old (sys job) (heldIn job n t) (heldIs job old) h i a (compared x ties ∙ sym q ∙ o))
         (makes-merged (old .parent) (old .action) e (old-narrow .2) (old-narrow .3))

@@ -47,6 +47,7 @@ module _ {job : List ℕ} {places n : ℕ} {t : List ℕ} {i : ℕ} {from : Slot
 
     -- ---- the four cases
 
+    -- A taken slot stays.
     pub relax-taken : old .taken ≡ true → Relaxed t
     unfolding heldIs
     relax-taken y = kept (relaxed-taken (sys job) (heldIn job n t) (heldIs job old) (hintsBy job from a node) i a (keyBy job from a) y)
@@ -59,16 +60,19 @@ module _ {job : List ℕ} {places n : ℕ} {t : List ℕ} {i : ℕ} {from : Slot
       abbrev least : Key
       least = record { cost = old .cost; steps = old .steps }
 
+      -- A lesser key replaces,
       pub relax-less : less (keyIs key) least ≡ true → {u : List ℕ} {s : Slot} → slots u ≡ set (slots t) j s → Makes job (newcomer job i from a node (old .node)) s → Relaxed u
       unfolding heldIs
       relax-less p e m = stored e m (relaxed-less (sys job) (heldIn job n t) (heldIs job old) (hintsBy job from a node) i a (keyBy job from a) isOpen (rw (k .is) at p))
 
       module _ (p : less (keyIs key) least ≡ false) where
+        -- an equal one merges,
         pub relax-same : sameKey (keyIs key) least ≡ true → {u : List ℕ} {s : Slot} → slots u ≡ set (slots t) j s
             → Makes job (tied (sys job) (heldIn job n t) (heldIs job old) (hintsBy job from a node) i a) s → Relaxed u
         unfolding heldIs
         relax-same q e m = stored e m (relaxed-same (sys job) (heldIn job n t) (heldIs job old) (hintsBy job from a node) i a (keyBy job from a) isOpen (rw (k .is) at p) (rw (k .is) at q))
 
+        -- and a larger one changes nothing.
         pub relax-more : sameKey (keyIs key) least ≡ false → Relaxed t
         unfolding heldIs
         relax-more q = kept (relaxed-more (sys job) (heldIn job n t) (heldIs job old) (hintsBy job from a node) i a (keyBy job from a) isOpen (rw (k .is) at p) (rw (k .is) at q))

@@ -2,7 +2,6 @@
 use table::Slot;
 use task::Key;
 ghost use mathlib.Core.Path.{_≡_};
-ghost use mathlib.Core.Bool.{false};
 ghost use Prim.Native.Nat.{_<_};
 ghost use Rattle.model.specs.job.Layout.{constraintCount, hintCount};
 ghost use Rattle.nodes.specs.Meaning.{Clean, Carries};

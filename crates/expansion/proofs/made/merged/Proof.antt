@@ -1,5 +1,4 @@
 -- `merged` keeps the way whose path comes first, which `comes_first` tells.
-use mathlib.Core.Path.{sym, _∙_}
 use Rattle.expansion.proofs.Arrival.{extends-open, comparable}
 use Rattle.expansion.proofs.Merging.{merged-new, merged-old}
 use borrow.Author.Needs.{needs}
@@ -21,14 +20,14 @@ returns c =
     let o = c .before .before in
     let m = o .before .before in
     let s = m .before .before .before .before .before in
-    merged-new (s .pre .0 .1) (s .pre .1) (m .before .hints-of .ensures) (m .met .ensures) (c .opened .ensures) (sym (o .comes-first .ensures) ∙ c .before .if1 .taken)
+    merged-new (s .pre .0 .1) (s .pre .1) (m .before .hints-of .ensures) (m .met .ensures) (c .opened .ensures) (o .comes-first .ensures) (c .before .if1 .taken)
 
 returns-2 : tie.Need-returns-2
 returns-2 c =
     let o = c .before .before in
     let m = o .before .before in
     let s = m .before .before .before .before .before in
-    merged-old (s .pre .0 .1) (s .pre .1) (m .before .hints-of .ensures) (m .met .ensures) (c .opened2 .ensures) (sym (o .comes-first .ensures) ∙ c .before .if1 .left)
+    merged-old (s .pre .0 .1) (s .pre .1) (m .before .hints-of .ensures) (m .met .ensures) (c .opened2 .ensures) (o .comes-first .ensures) (c .before .if1 .left)
 
 pub merged-spec : {M : Type 1} → statement M
 merged-spec =
