@@ -12,7 +12,7 @@ use Rattle.model.proofs.exploration.KeyLaws.{le-refl, lt-le, le-lt-trans, not-b
 use Rattle.model.proofs.exploration.Laws.{Laws}
 use Rattle.model.proofs.exploration.Gather.{At}
 use Rattle.dijkstra.specs.Records.{Held, Table, pathOf}
-use Rattle.dijkstra.proofs.Both.{and-split, and-join}
+use Rattle.model.proofs.Tests.{and-both}
 use Rattle.dijkstra.proofs.Slots.{Holds, Put}
 use Rattle.dijkstra.proofs.Invariant.{entry, Linked, Gathers, Inv, Keeps, linked-steps, path-suc, entry-keeps, inv-more}
 use Rattle.dijkstra.proofs.Kept.{put-inv}
@@ -117,10 +117,10 @@ module _ (S : System) (laws : Laws S) {m0 : S .Node} {t : Table S} {i : ℕ} {q 
         is σ = ap (λ (h : S .Hints). S .trueAt h σ) eh ∙ laws .meet-true (r .hints) (y .hints) σ
 
         join : (σ : S .Setting) → S .trueAt (r .hints) σ ≡ true → S .trueAt (y .hints) σ ≡ true → S .trueAt (v .hints) σ ≡ true
-        join σ k l = is σ ∙ and-join _ _ k l
+        join σ k l = is σ ∙ and-both _ _ .1 (k, l)
 
         both : (σ : S .Setting) → S .trueAt (v .hints) σ ≡ true → (S .trueAt (r .hints) σ ≡ true) × (S .trueAt (y .hints) σ ≡ true)
-        both σ a = and-split (S .trueAt (r .hints) σ) (S .trueAt (y .hints) σ) (sym (is σ) ∙ a)
+        both σ a = and-both (S .trueAt (r .hints) σ) (S .trueAt (y .hints) σ) .0 (sym (is σ) ∙ a)
 
         each : (σ : S .Setting) → S .trueAt (v .hints) σ ≡ true → (z : Entry S) → At S (entry S u j v) z → Before S t i c z ⊎ (z ≡ y) → S .trueAt (z .hints) σ ≡ true
         each σ a z m (inl k) = (g .conjoined σ) .0 ((both σ a) .0) z k (m .0 ∙ sym en, m .1 ∙ sym ek)

@@ -13,7 +13,7 @@ use Rattle.model.specs.exploration.System.{System}
 use Rattle.model.proofs.exploration.KeyLaws.{same-key, same-key-refl, first-trans, firstOf-is, firstOf-first}
 use Rattle.dijkstra.specs.Records.{Held, Table, pathOf}
 use Rattle.dijkstra.specs.Search.{firstGoal}
-use Rattle.dijkstra.proofs.Both.{and-split, and-join}
+use Rattle.model.proofs.Tests.{and-both}
 use Rattle.dijkstra.proofs.Slots.{Holds}
 
 module _ (S : System) (k : Key) where
@@ -27,15 +27,15 @@ module _ (S : System) (k : Key) where
   test-true : (r : Held S) → test r ≡ true → AtGoal r
   unfolding test
   test-true r h =
-      let a = and-split _ _ h in
-      let b = and-split _ _ (a .0) in
+      let a = and-both _ _ .0 h in
+      let b = and-both _ _ .0 (a .0) in
       (same-key _ _ (b .0), not-true _ (b .1), a .1)
 
   test-false : (r : Held S) → test r ≡ false → AtGoal r → ⊥
   unfolding test
   test-false r h g =
       let a : sameKey (r .key) k ≡ true = subst (λ (z : Key). sameKey z k ≡ true) (sym (g .0)) (same-key-refl k) in
-      true≢false (sym (and-join _ _ (and-join _ _ a (ap not (g .1))) (g .2)) ∙ h)
+      true≢false (sym (and-both _ _ .1 (and-both _ _ .1 (a, ap not (g .1)), g .2)) ∙ h)
 
   module _ (t : Table S) where
     -- p is the path of an uncut goal node of the slots rs, which are numbered from i on

@@ -1,5 +1,4 @@
 pub mod Examples
-pub mod Both
 pub mod Slots
 pub mod Finding
 pub mod Goals

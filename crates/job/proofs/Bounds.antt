@@ -11,7 +11,8 @@ use Rattle.model.specs.declared.Verdict.the-variants.{Fine}
 use Rattle.model.specs.Verdict.{inTurn}
 use Rattle.model.specs.job.Layout.{factCount, actionCount, constraintCount, hintCount, pairCount, pairOffset, pairLength, actionOffset}
 use Rattle.model.specs.job.Decoding.{countsInRange, headVerdict, sectionStart, rightLength, pairVerdict, pairsVerdict}
-use Rattle.model.proofs.job.VerdictLaws.{and-both, orElse-fine, unless-fine, inTurn-fine}
+use Rattle.model.proofs.Tests.{and-both}
+use Rattle.model.proofs.job.VerdictLaws.{orElse-fine, unless-fine, inTurn-fine}
 use Rattle.job.specs.Laid.{Laid}
 
 -- Four tests are true together only if each is.

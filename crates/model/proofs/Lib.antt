@@ -1,4 +1,5 @@
 -- The theorems about the definitions of specs/.
+pub mod Tests
 pub mod bits
 pub mod logic
 pub mod task

@@ -1,7 +1,7 @@
 -- Laws of paths: how long they are, how two of them compare, and how one is written.
 use mathlib.Core.Path.{_≡_, refl, sym, ap, _∙_}
 use mathlib.Core.Logic.{_⊎_, inl, inr}
-use mathlib.Core.Bool.{Bool, true, false, true≢false}
+use mathlib.Core.Bool.{true, true≢false}
 use mathlib.Core.List.{List, [], _∷_, _++_, append-assoc}
 use Prim.Native.Nat.{ℕ, zero, suc, _<_}
 use native.Mathlib.Omega.{arith}
@@ -15,6 +15,7 @@ use Rattle.table.specs.declared.Slot.{Slot}
 use Rattle.table.specs.Slots.{slotAt}
 use Rattle.table.proofs.LookupLaws.{first-at}
 use Rattle.paths.specs.Chain.{held, parentAt, actionAt, stepsAt, slotPath, order, orderBy, Chained, Level}
+use Rattle.model.proofs.Tests.{same-truth}
 
 -- ---- the parts of a held slot are those in the table
 
@@ -43,12 +44,6 @@ path-same ss rr p a zero i = refl
 path-same ss rr p a (suc n) i = rw (p i, a i, path-same ss rr p a n (parentAt rr i))
 
 -- ---- the order of two sequences with one more action each
-
--- Tests that are true together are equal.
-same-truth : (a b : Bool) → (a ≡ true → b ≡ true) → (b ≡ true → a ≡ true) → a ≡ b
-same-truth true b f g = sym (f refl)
-same-truth false true f g = g refl
-same-truth false false f g = refl
 
 -- From the same sequence it goes by the actions,
 last-same : (p : List ℕ) (a b : ℕ) → earlier (p ++ (a ∷ [])) (p ++ (b ∷ [])) ≡ ltb a b

@@ -1,7 +1,7 @@
 -- An entry with all arrivals of its node and key: its hint residuals are their conjunction, and its path is the first of theirs.
 use mathlib.Core.Path.{_≡_, refl, sym, ap, _∙_, subst}
 use Prim.Native.Nat.{ℕ}
-use mathlib.Core.Bool.{Bool, true, false, _&&_, true≢false}
+use mathlib.Core.Bool.{Bool, true, false, true≢false}
 use mathlib.Core.List.{List, [], _∷_}
 use mathlib.Core.Logic.{inl, _↔_}
 use lib.ListN.{length}
@@ -11,14 +11,7 @@ use Rattle.model.specs.exploration.Explore.{Entry, alike, merge, gather}
 use Rattle.model.proofs.exploration.KeyLaws.{same-key, same-key-refl, first-trans, firstOf-is, firstOf-first}
 use Rattle.model.proofs.exploration.Laws.{Laws}
 use Rattle.model.proofs.exploration.Each.{All}
-
-and-split : (a b : Bool) → (a && b) ≡ true → (a ≡ true) × (b ≡ true)
-and-split true b h = (refl, h)
-and-split false b h = absurd (true≢false (sym h))
-
-and-join : (a b : Bool) → a ≡ true → b ≡ true → (a && b) ≡ true
-and-join true b p q = q
-and-join false b p q = p
+use Rattle.model.proofs.Tests.{and-both}
 
 module _ (S : System) where
   -- x is at the node and of the key of c
@@ -85,8 +78,8 @@ module _ (S : System) where
             → (S .trueAt (gather S c xs .hints) s ≡ true) ↔ ((S .trueAt (c .hints) s ≡ true) × All (λ z. At c z → S .trueAt (z .hints) s ≡ true) xs)
             → (S .trueAt (gather S c (x ∷ xs) .hints) s ≡ true) ↔ ((S .trueAt (c .hints) s ≡ true) × All (λ z. At c z → S .trueAt (z .hints) s ≡ true) (x ∷ xs))
         go true e r t = rw (e, gather) (
-          λ k. let b = and-split _ _ (sym (laws .meet-true (c .hints) (x .hints) s) ∙ (r .0 k) .0) in (b .0, (λ q. b .1, (r .0 k) .1)),
-          λ k. r .1 (laws .meet-true (c .hints) (x .hints) s ∙ and-join _ _ (k .0) (k .1 .0 (alike-at c x e)), k .1 .1),
+          λ k. let b = and-both _ _ .0 (sym (laws .meet-true (c .hints) (x .hints) s) ∙ (r .0 k) .0) in (b .0, (λ q. b .1, (r .0 k) .1)),
+          λ k. r .1 (laws .meet-true (c .hints) (x .hints) s ∙ and-both _ _ .1 (k .0, k .1 .0 (alike-at c x e)), k .1 .1),
         )
         go false e r t = rw (e, gather) (
           λ k. ((t .0 k) .0, (λ q. absurd (true≢false (sym (at-alike c x q) ∙ e)), (t .0 k) .1)),

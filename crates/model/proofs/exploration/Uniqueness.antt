@@ -1,23 +1,17 @@
 -- The equations of exploration have at most one solution, up to the key to which they go.
-use mathlib.Core.Path.{_≡_, refl, sym, _∙_, subst}
-use mathlib.Core.Bool.{Bool, true, false}
+use mathlib.Core.Path.{_≡_, sym, _∙_, subst}
 use mathlib.Core.Logic.{_⊎_, inl, inr}
 use Rattle.model.specs.exploration.Key.{Key, zeroKey, Le, Lt}
 use Rattle.model.specs.exploration.System.{System}
 use Rattle.model.specs.exploration.Equations.{Bound, up-to, unbounded, Within, Entries, Starts, Arrives, Explores}
 use Rattle.model.proofs.exploration.KeyLaws.{le-trans, lt-le, le-antisym, lt-or-le, extend-lt, extend-not-zero, key-ind}
 use Rattle.model.proofs.exploration.Laws.{Laws}
+use Rattle.model.proofs.Tests.{same-truth}
 
 -- A key up to one within the bound is within the bound.
 pub within-below : (B : Bound) (j k : Key) → Le j k → Within B k → Within B j
 within-below (up-to b) j k l w = le-trans j k b l w
 within-below unbounded j k l w = tt
-
--- Tests that are true together are equal.
-same-truth : (a b : Bool) → (a ≡ true → b ≡ true) → (b ≡ true → a ≡ true) → a ≡ b
-same-truth true b f g = sym (f refl)
-same-truth false true f g = g refl
-same-truth false false f g = refl
 
 module _ (S : System) where
   pub arrives-lt : {L : Entries S} {n : S .Node} {k : Key} {h : S .Hints} (a : Arrives S L n k h) → Lt (a .key) k

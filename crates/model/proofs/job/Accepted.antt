@@ -20,7 +20,8 @@ use Rattle.model.specs.job.Job.{Job, Action, noAction, actionOf, listOf}
 use Rattle.model.specs.job.Layout.{factCount, actionCount, constraintCount, hintCount, pairOffset, actionOffset, actionAt, formulaIn, formulaAt, jobOf}
 use Rattle.model.specs.job.Decoding.{countsInRange, partsVerdict, formulaVerdict, headVerdict, pairsVerdict, setVerdict, actionVerdict, taskVerdict, formulasVerdict, jobVerdict}
 use Rattle.model.proofs.exploration.Each.{All}
-use Rattle.model.proofs.job.VerdictLaws.{and-both, bad-not-fine, orElse-fine, unless-fine, inTurn-fine, length-listOf, getD-listOf, all-listOf}
+use Rattle.model.proofs.Tests.{and-both}
+use Rattle.model.proofs.job.VerdictLaws.{bad-not-fine, orElse-fine, unless-fine, inTurn-fine, length-listOf, getD-listOf, all-listOf}
 
 -- "A rule has at most 6" carried parts.
 abbrev pub FewParts : List Formula → Type 0

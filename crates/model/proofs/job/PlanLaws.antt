@@ -13,7 +13,7 @@ use Rattle.model.specs.job.Job.{Job, actionOf}
 use Rattle.model.specs.task.State.{within, applicable, after}
 use Rattle.model.specs.task.Plan.{stateAfter, worlds, executable, allowed}
 use Rattle.model.proofs.exploration.Each.{All}
-use Rattle.model.proofs.job.VerdictLaws.{and-both}
+use Rattle.model.proofs.Tests.{and-both}
 
 pub allHold-cons : (φ : Formula) (φs : List Formula) (ws : List World) → allHold (φ ∷ φs) ws ≡ holds φ ws && allHold φs ws
 unfolding allHold

@@ -19,7 +19,7 @@ use Rattle.model.specs.task.Plan.{worldsAfter}
 use Rattle.model.specs.search.Node.{residuals, progressedAll, closingAll, someDead}
 use Rattle.model.proofs.logic.ProgressionLaws.{residual-right, progressed-right}
 use Rattle.model.proofs.logic.ResidualLaws.{dead-holds}
-use Rattle.model.proofs.job.VerdictLaws.{and-both}
+use Rattle.model.proofs.Tests.{and-both}
 use Rattle.model.proofs.job.Accepted.{FewParts}
 use Rattle.model.proofs.job.PlanLaws.{allHold-cons}
 use Rattle.model.proofs.job.NodeLaws.{worldAfter}

@@ -4,7 +4,7 @@ use mathlib.Core.Logic.{_↔_}
 use Prim.Native.Nat.{ℕ, zero, suc, _<_}
 use native.Mathlib.Omega.{arith}
 use native.Mathlib.Decide.{decLt}
-use mathlib.Core.Bool.{Bool, true, false, _&&_, true≢false}
+use mathlib.Core.Bool.{Bool, true, false, true≢false}
 use mathlib.Core.List.{List, [], _∷_, _++_}
 use lib.ListN.{length, getD, length-append, List·getD-append}
 use lib.Seq.{getD-at}
@@ -14,11 +14,6 @@ use Rattle.model.specs.declared.Verdict.the-variants.{Fine, Bad}
 use Rattle.model.specs.Verdict.{unless, orElse, inTurn}
 use Rattle.model.specs.job.Job.{listOf}
 use Rattle.model.proofs.exploration.Each.{All, all-append}
-
--- Two tests are true together if each is.
-pub and-both : (a b : Bool) → (a && b ≡ true) ↔ ((a ≡ true) × (b ≡ true))
-and-both true b = (λ h. (refl, h), λ h. h .1)
-and-both false b = (λ h. absurd (true≢false (sym h)), λ h. h .0)
 
 -- No verdict is both.
 pub bad-not-fine : {r : Refusal} → Bad r ≡ Fine → ⊥
