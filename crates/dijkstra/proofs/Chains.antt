@@ -77,7 +77,7 @@ module _ (S : System) {m0 : S .Node} {t : Table S} {P : Entry S → Type 0} (inv
   -- ---- how two chains compare
 
   -- Of the same path is the same slot.
-  path-slot : (n i j : ℕ) (r q : Held S) → Holds t i r → Holds t j q → r .key .steps ≡ n → q .key .steps ≡ n → pathOf S t n i ≡ pathOf S t n j → i ≡ j
+  pub path-slot : (n i j : ℕ) (r q : Held S) → Holds t i r → Holds t j q → r .key .steps ≡ n → q .key .steps ≡ n → pathOf S t n i ≡ pathOf S t n j → i ≡ j
   path-slot zero i j r q h k e f p = zero-slot S inv i r h e ∙ sym (zero-slot S inv j q k f)
   path-slot (suc n) i j r q h k e f p =
       let a = steps-linked S inv i r h e in

@@ -1,11 +1,11 @@
 -- The slots of a table as the records of a search, for a job's bytes.
 use mathlib.Core.Path.{_≡_}
-use Prim.Native.Nat.{ℕ, _*_, _≤_, _<_}
+use Prim.Native.Nat.{ℕ, _*_, _≤_}
 use mathlib.Core.Option.{Option, none, some}
-use mathlib.Core.List.{List, [], _∷_, map}
-use lib.ListN.{length, take}
+use mathlib.Core.List.{List, map}
+use lib.ListN.{take}
 use Rattle.model.specs.exploration.System.{System}
-use Rattle.model.specs.job.Layout.{constraintCount, hintCount, actionCount, jobOf}
+use Rattle.model.specs.job.Layout.{constraintCount, hintCount, jobOf}
 use Rattle.model.specs.search.JobSystem.{systemOf, isGoal}
 use Rattle.model.proofs.exploration.Each.{All}
 use Rattle.dijkstra.specs.Records.{Held, Table}

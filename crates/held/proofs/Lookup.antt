@@ -1,0 +1,115 @@
+-- What is looked up among the slots is what is looked up among their records.
+use mathlib.Core.Path.{_≡_, refl, sym, ap, _∙_}
+use mathlib.Core.Bool.{Bool, true, false}
+use mathlib.Core.Option.{Option, none, some}
+use mathlib.Core.List.{List, [], _∷_, map}
+use Prim.Native.Nat.{ℕ, suc, _≤_}
+use native.Mathlib.Omega.{arith}
+use lib.ListN.{take}
+use Rattle.model.specs.logic.Formula.{choose}
+use Rattle.model.specs.exploration.Key.{Key, less}
+use Rattle.model.specs.job.Layout.{constraintCount}
+use Rattle.model.specs.search.Node.{sameNumbers, sameNode}
+use Rattle.model.proofs.exploration.Each.{All}
+use Rattle.dijkstra.specs.Records as search
+use Rattle.dijkstra.specs.Records.{Held, find, leastOpen}
+use Rattle.dijkstra.proofs.Finding.{least-some}
+use Rattle.table.specs.declared.Slot.{Slot}
+use Rattle.table.specs.declared.Found.{Found}
+use Rattle.table.specs.declared.Found.the-variants.{At, Nothing}
+use Rattle.table.specs.declared.Best.{Best}
+use Rattle.table.specs.declared.Best.the-variants.{Open, NoOpen}
+use Rattle.table.specs.Slots.{slots, slotAt}
+use Rattle.table.specs.Lookup.{findIn, keyOf, leastIn, slotOfBest}
+use Rattle.nodes.specs.Meaning.{nodeIs, Clean}
+use Rattle.nodes.proofs.Same.{same-nodes}
+use Rattle.held.specs.Held.{sys, heldIs, heldIn, Sound, SoundTo, slotOption}
+use Rattle.held.proofs.HeldLaws.{held-map, held-is}
+
+-- the best open slot as an option
+abbrev pub bestOption : Best → Option search.Open
+bestOption (Open i c k) = some (record { slot = i; key = keyOf c k })
+bestOption NoOpen = none
+
+module _ (job : List ℕ) where
+  held-node : (s : Slot) → heldIs job s .node ≡ nodeIs (constraintCount job) (s .node)
+  unfolding heldIs
+  held-node s = refl
+
+  held-taken : (s : Slot) → heldIs job s .taken ≡ s .taken
+  unfolding heldIs
+  held-taken s = refl
+
+  held-key : (s : Slot) → heldIs job s .key ≡ keyOf (s .cost) (s .steps)
+  unfolding heldIs
+  held-key s = refl
+
+  -- ---- the slot of a node
+
+  module _ (few : constraintCount job ≤ 8) (node : List ℕ) (clean : Clean (constraintCount job) node) where
+    find-all : (ss : List Slot) → All (Sound job) ss → (k : ℕ) → find (sys job) (nodeIs (constraintCount job) node) (map (heldIs job) ss) k ≡ slotOption (findIn node ss k)
+    unfolding find findIn
+    find-all [] h k = refl
+    find-all (s ∷ ss) h k = go (sameNumbers node (s .node)) refl (find-all ss (h .1) (suc k))
+      where
+        same : sameNumbers node (s .node) ≡ sameNode (nodeIs (constraintCount job) node) (heldIs job s .node)
+        same = same-nodes (constraintCount job) node (s .node) clean (h .0 .clean) few ∙ ap (sameNode (nodeIs (constraintCount job) node)) (sym (held-node s))
+
+        go : (b : Bool) → sameNumbers node (s .node) ≡ b → find (sys job) (nodeIs (constraintCount job) node) (map (heldIs job) ss) (suc k) ≡ slotOption (findIn node ss (suc k))
+            → find (sys job) (nodeIs (constraintCount job) node) (map (heldIs job) (s ∷ ss)) k ≡ slotOption (findIn node (s ∷ ss) k)
+        go true e ih = let q = sym same ∙ e in rw (e, findIn, q, find)
+        go false e ih = let q = sym same ∙ e in rw (e, findIn, q, find) ih
+
+    -- The slot of a node, among n sound slots.
+    pub find-held : (n : ℕ) (t : List ℕ) → SoundTo job n t → find (sys job) (nodeIs (constraintCount job) node) (heldIn job n t) 0 ≡ slotOption (findIn node (take n (slots t)) 0)
+    find-held n t h = rw (held-map job n t) (find-all (take n (slots t)) h 0)
+
+  -- ---- the open slot of the least key
+
+  least-all : (ss : List Slot) (k : ℕ) → leastOpen (sys job) (map (heldIs job) ss) k ≡ bestOption (leastIn ss k)
+  unfolding leastOpen leastIn heldIs
+  least-all [] k = refl
+  least-all (s ∷ ss) k = go (s .taken) refl (leastIn ss (suc k)) refl (least-all ss (suc k))
+    where
+      go : (a : Bool) → s .taken ≡ a → (b : Best) → leastIn ss (suc k) ≡ b → leastOpen (sys job) (map (heldIs job) ss) (suc k) ≡ bestOption (leastIn ss (suc k))
+          → leastOpen (sys job) (map (heldIs job) (s ∷ ss)) k ≡ bestOption (leastIn (s ∷ ss) k)
+      go true e NoOpen f ih = rw (e, ih, f)
+      go true e (Open i c n) f ih = rw (e, ih, f)
+      go false e NoOpen f ih = rw (e, ih, f)
+      go false e (Open i c n) f ih = rw (e, ih, f) (front (less (keyOf c n) (keyOf (s .cost) (s .steps))))
+        where
+          front : (x : Bool) → elim x as (λ y. Option search.Open) [ false ↦ some (record { slot = k; key = keyOf (s .cost) (s .steps) }) | true ↦ some (record { slot = i; key = keyOf c n }) ]
+              ≡ bestOption (choose x (Open i c n) (Open k (s .cost) (s .steps)))
+          front true = refl
+          front false = refl
+
+  -- The open slot of the least key, among n slots.
+  pub least-held : (n : ℕ) (t : List ℕ) → leastOpen (sys job) (heldIn job n t) 0 ≡ bestOption (leastIn (take n (slots t)) 0)
+  least-held n t = rw (held-map job n t) (least-all (take n (slots t)) 0)
+
+  -- ---- where only the slot's number is told
+
+  module _ (n : ℕ) (t : List ℕ) {f : Found} (e : f ≡ slotOfBest (leastIn (take n (slots t)) 0)) where
+    -- It is open, and its key is its own.
+    pub least-at : {i : ℕ} → f ≡ At i → leastOpen (sys job) (heldIn job n t) 0 ≡ some (record { slot = i; key = keyOf (slotAt t i .cost) (slotAt t i .steps) })
+    unfolding slotOfBest
+    least-at {i} q = go (leastIn (take n (slots t)) 0) refl
+      where
+        go : (b : Best) → leastIn (take n (slots t)) 0 ≡ b → leastOpen (sys job) (heldIn job n t) 0 ≡ some (record { slot = i; key = keyOf (slotAt t i .cost) (slotAt t i .steps) })
+        go (Open j c k) d =
+            let w : At j ≡ At i = sym (ap slotOfBest d) ∙ sym e ∙ q in
+            let p : j ≡ i = cc in
+            let l : leastOpen (sys job) (heldIn job n t) 0 ≡ some (record { slot = j; key = keyOf c k }) = least-held n t ∙ ap bestOption d in
+            let m = least-some (sys job) (heldIn job n t) l in
+            let y : keyOf c k ≡ keyOf (slotAt t j .cost) (slotAt t j .steps) = m .3 ∙ ap (λ (r : Held (sys job)). r .key) (held-is job n t j (m .1) .1) ∙ held-key (slotAt t j) in
+            rw p at (l ∙ ap (λ (z : Key). some (record { slot = j; key = z })) y)
+        go NoOpen d = let w : Nothing ≡ At i = sym (ap slotOfBest d) ∙ sym e ∙ q in let z : _≡_ {A = ℕ} 0 1 = cc in absurd (omega arith)
+
+    -- Where there is none, no slot is open.
+    pub least-nothing : f ≡ Nothing → leastOpen (sys job) (heldIn job n t) 0 ≡ none
+    unfolding slotOfBest
+    least-nothing q = go (leastIn (take n (slots t)) 0) refl
+      where
+        go : (b : Best) → leastIn (take n (slots t)) 0 ≡ b → leastOpen (sys job) (heldIn job n t) 0 ≡ none
+        go (Open j c k) d = let w : At j ≡ Nothing = sym (ap slotOfBest d) ∙ sym e ∙ q in let z : _≡_ {A = ℕ} 0 1 = cc in absurd (omega arith)
+        go NoOpen d = least-held n t ∙ ap bestOption d
