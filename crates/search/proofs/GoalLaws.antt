@@ -8,17 +8,19 @@ use native.Mathlib.Omega.{arith}
 use lib.Dec.{eqb}
 use lib.ListN.{length, getD, drop, drop-of-length-le}
 use lib.Seq.{drop-cons}
-use borrow.Author.Tests.{eq-eqb, ne-eqb, eqb-true}
+use borrow.Author.Tests.{eq-eqb, ne-eqb}
 use Rattle.model.specs.logic.Formula.{choose}
-use Rattle.model.specs.exploration.Key.{sameKey}
+use Rattle.model.specs.exploration.Key.{Key, sameKey}
 use Rattle.model.specs.job.Layout.{hintCount}
 use Rattle.model.specs.search.Node.{someDead}
+use Rattle.model.proofs.exploration.KeyLaws.{same-key}
 use Rattle.model.proofs.job.VerdictLaws.{and-both}
 use Rattle.dijkstra.specs.Search.{someCutIn}
 use Rattle.table.specs.declared.Slot.{Slot}
 use Rattle.table.specs.declared.Found.{Found}
 use Rattle.table.specs.declared.Found.the-variants.{At, Nothing}
 use Rattle.table.specs.Slots.{noSlot}
+use Rattle.table.specs.Lookup.{keyOf}
 use Rattle.nodes.specs.Meaning.{hintsIs}
 use Rattle.paths.specs.Chain.{stepsAt, order, Level}
 use Rattle.held.specs.Held.{sys, heldIs}
@@ -52,14 +54,12 @@ module _ (job : List ℕ) (c s : ℕ) (x : Slot) where
     unfolding due sameKey
     is-due e = rw (eq-eqb (x .cost) c (sym ev ∙ ec), sameKey, eq-eqb (x .steps) s (sym ew ∙ es), sym cut ∙ e)
 
-  -- A slot that is due has so many steps.
-  pub due-steps : due job c s x ≡ true → x .steps ≡ s
-  unfolding due sameKey
-  due-steps h = go (eqb (x .cost) c) (and-both _ _ .0 (and-both _ _ .0 h .0) .0)
-    where
-      go : (b : Bool) → (elim b as (λ y. Bool) [ true ↦ eqb (x .steps) s | false ↦ false ]) ≡ true → x .steps ≡ s
-      go true e = eqb-true (x .steps) s e
-      go false e = absurd (true≢false (sym e))
+  -- A slot that is due has that cost and so many steps.
+  pub due-key : due job c s x ≡ true → (x .cost ≡ c) × (x .steps ≡ s)
+  unfolding due
+  due-key h =
+      let e : keyOf (x .cost) (x .steps) ≡ keyOf c s = same-key _ _ (and-both _ _ .0 (and-both _ _ .0 h .0) .0) in
+      (ap (λ (k : Key). k .cost) e, ap (λ (k : Key). k .steps) e)
 
 -- ---- the choice between slot i and what was found behind it
 
@@ -85,9 +85,9 @@ module _ (ss : List Slot) (d : Bool) (i : ℕ) (f : Found) where
   chosen-here b o p e q h = rw (q, e, ← p, h)
 
 -- What was found behind slot i, which has as many steps, can be compared with it.
-pub behind-level : (ss : List Slot) (n i b s : ℕ) (f : Found) → f ≡ At b → Behind ss (i + 1) s f → length ss ≡ n → i < n → stepsAt ss i ≡ s → Level ss n b i
-behind-level ss n i b s f e h l g q =
-    let k : (i + 1 ≤ b) × (b < length ss) × (stepsAt ss b ≡ s) = rw e at h in
+pub behind-level : (ss : List Slot) (n i b c s : ℕ) (f : Found) → f ≡ At b → Behind ss (i + 1) c s f → length ss ≡ n → i < n → stepsAt ss i ≡ s → Level ss n b i
+behind-level ss n i b c s f e h l g q =
+    let k : Behind ss (i + 1) c s (At b) = rw e at h in
     record { first = omega arith; second = g; differ = λ z. omega arith; level = omega arith }
 
 -- ---- the slots from i on
@@ -108,25 +108,25 @@ module _ (job : List ℕ) (c s : ℕ) (ss : List Slot) where
   pub due-turn : (i k : ℕ) (x : Slot) (f r : Found) → f ≡ From k → r ≡ chosen ss (due job c s x) i f → k ≡ suc i → getD ss i noSlot ≡ x → i < length ss → r ≡ From i
   due-turn i k x f r e q d g h = q ∙ rw (e, d, ← g) (sym (due-more i h))
 
-  chosen-from : (i : ℕ) (x : Slot) → getD ss i noSlot ≡ x → (f : Found) → Behind ss (suc i) s f → i < length ss → Behind ss i s (chosen ss (due job c s x) i f)
+  chosen-from : (i : ℕ) (x : Slot) → getD ss i noSlot ≡ x → (f : Found) → Behind ss (suc i) c s f → i < length ss → Behind ss i c s (chosen ss (due job c s x) i f)
   unfolding chosen
   chosen-from i x g f h l = go (due job c s x) refl f h
     where
-      here : due job c s x ≡ true → Behind ss i s (At i)
-      here e = (omega arith, l, ap (λ (y : Slot). y .steps) g ∙ due-steps job c s x e)
+      here : due job c s x ≡ true → Behind ss i c s (At i)
+      here e = let k = due-key job c s x e in (omega arith, l, ap (λ (y : Slot). y .cost) g ∙ k .0, ap (λ (y : Slot). y .steps) g ∙ k .1)
 
-      go : (b : Bool) → due job c s x ≡ b → (f : Found) → Behind ss (suc i) s f → Behind ss i s (chosen ss b i f)
+      go : (b : Bool) → due job c s x ≡ b → (f : Found) → Behind ss (suc i) c s f → Behind ss i c s (chosen ss b i f)
       go true e Nothing h = here e
       go true e (At b) h = pick (order ss b i)
         where
-          pick : (o : Bool) → Behind ss i s (choose o (At b) (At i))
-          pick true = (omega arith, h .1, h .2)
+          pick : (o : Bool) → Behind ss i c s (choose o (At b) (At i))
+          pick true = (omega arith, h .1, h .2, h .3)
           pick false = here e
       go false e Nothing h = tt
-      go false e (At b) h = (omega arith, h .1, h .2)
+      go false e (At b) h = (omega arith, h .1, h .2, h .3)
 
-  -- What is found is one of them, with so many steps.
-  pub due-behind : (d i : ℕ) → d + i ≡ length ss → Behind ss i s (From i)
+  -- What is found is one of them, of that cost and with so many steps.
+  pub due-behind : (d i : ℕ) → d + i ≡ length ss → Behind ss i c s (From i)
   due-behind zero i e = rw (← due-none i (omega arith)) tt
   due-behind (suc d) i e =
       rw (due-more i (omega arith))

@@ -1,1 +1,3 @@
 pub mod GoalLaws
+pub mod FirstGoal
+pub mod TurnLaws

@@ -3,7 +3,7 @@ use mathlib.Core.Path.{_≡_}
 use mathlib.Core.Bool.{Bool, not, _&&_}
 use mathlib.Core.List.{List, [], _∷_}
 use Prim.Native.Nat.{ℕ, suc, _≤_, _<_}
-use lib.ListN.{length}
+use lib.ListN.{length, getD}
 use Rattle.model.specs.logic.Formula.{choose}
 use Rattle.model.specs.exploration.Key.{sameKey}
 use Rattle.model.specs.job.Layout.{hintCount}
@@ -11,6 +11,7 @@ use Rattle.model.specs.search.Node.{someDead}
 use Rattle.table.specs.declared.Slot.{Slot}
 use Rattle.table.specs.declared.Found.{Found}
 use Rattle.table.specs.declared.Found.the-variants.{At, Nothing}
+use Rattle.table.specs.Slots.{noSlot}
 use Rattle.table.specs.Lookup.{keyOf}
 use Rattle.nodes.specs.Meaning.{hintsIs}
 use Rattle.paths.specs.Chain.{stepsAt, order}
@@ -31,7 +32,7 @@ unfolding due chosen
 firstDue job c s ss [] i = Nothing
 firstDue job c s ss (x ∷ xs) i = chosen ss (due job c s x) i (firstDue job c s ss xs (suc i))
 
--- What was found, if anything, is a slot from i on, with so many steps.
-abbrev pub Behind : List Slot → ℕ → ℕ → Found → Type 0
-Behind ss i s Nothing = Unit {0}
-Behind ss i s (At b) = (i ≤ b) × (b < length ss) × (stepsAt ss b ≡ s)
+-- What was found, if anything, is a slot from i on, of that cost and with so many steps.
+abbrev pub Behind : List Slot → ℕ → ℕ → ℕ → Found → Type 0
+Behind ss i c s Nothing = Unit {0}
+Behind ss i c s (At b) = (i ≤ b) × (b < length ss) × (getD ss b noSlot .cost ≡ c) × (stepsAt ss b ≡ s)

@@ -41,7 +41,7 @@ fn choose(
     cost: u64,
     steps: u64,
 ) -> Found
-    requires { ⌜ (jobVerdict (now job) ≡ Fine) × (n * 160 ≤ length (now t)) × (i < n) × Chained (held (now t) n) × Behind (held (now t) n) (i + 1) steps found ⌝ }
+    requires { ⌜ (jobVerdict (now job) ≡ Fine) × (n * 160 ≤ length (now t)) × (i < n) × Chained (held (now t) n) × Behind (held (now t) n) (i + 1) cost steps found ⌝ }
     ensures { λ r. ⌜ r ≡ chosen (held (now (t .entry)) n) (due (now (job .entry)) cost steps (slotAt (now (t .entry)) i)) i found ⌝ }
 {
     if !is_due(job, t, i, cost, steps) {

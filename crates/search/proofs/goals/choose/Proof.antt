@@ -7,7 +7,7 @@ use Rattle.table.proofs.LookupLaws.{length-first}
 use Rattle.table.specs.Slots.{slotAt}
 use Rattle.paths.specs.Chain.{held}
 use Rattle.paths.proofs.ChainLaws.{held-steps}
-use Rattle.search.proofs.GoalLaws.{due-steps, chosen-not, chosen-only, chosen-behind, chosen-here, behind-level}
+use Rattle.search.proofs.GoalLaws.{due-key, chosen-not, chosen-only, chosen-behind, chosen-here, behind-level}
 use borrow.Author.Needs.{needs}
 use Rattle.search.proofs.goals.choose.Statement.{statement}
 use Rattle.search.proofs.goals.choose.Tie as tie
@@ -43,7 +43,7 @@ before-requires c κs =
     let s = c .before .before .before .before .before .before .before in
     let h = yes′ (c .before .before .before) in
     let e = held-steps (s .args .t .now) (s .args .n) (s .args .i) (s .pre .2) in
-    (s .pre .1, s .pre .3, behind-level (held (s .args .t .now) (s .args .n)) (s .args .n) (s .args .i) _ (s .args .steps) (s .args .found) (c .before .found .given .1) (s .pre .4) (length-first (s .args .t .now) (s .args .n) (s .pre .1)) (s .pre .2) (sym e ∙ due-steps (s .args .job .now) (s .args .cost) (s .args .steps) (slotAt (s .args .t .now) (s .args .i)) h))
+    (s .pre .1, s .pre .3, behind-level (held (s .args .t .now) (s .args .n)) (s .args .n) (s .args .i) _ (s .args .cost) (s .args .steps) (s .args .found) (c .before .found .given .1) (s .pre .4) (length-first (s .args .t .now) (s .args .n) (s .pre .1)) (s .pre .2) (sym e ∙ due-key (s .args .job .now) (s .args .cost) (s .args .steps) (slotAt (s .args .t .now) (s .args .i)) h .1))
 
 -- src/goals.rt:35:1
 returns-2 : tie.Need-returns-2
