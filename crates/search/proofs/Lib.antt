@@ -1,3 +1,5 @@
 pub mod GoalLaws
 pub mod FirstGoal
 pub mod TurnLaws
+pub mod StartLaws
+pub mod GivenLaws

@@ -7,7 +7,9 @@ use lib.ListN.{length}
 use Rattle.model.specs.exploration.Key.{Key}
 use Rattle.model.specs.exploration.Equations.{plan, no-plan}
 use Rattle.dijkstra.specs.Records.{leastOpen}
-use Rattle.dijkstra.specs.Search.{Result, answered, too-small, goes-on, full, expand, firstGoal, turns}
+use Rattle.dijkstra.specs.Search.{Result, answered, too-small, goes-on, full, expand, firstGoal, turns, startTable}
+use Rattle.model.specs.job.Layout.{constraintCount}
+use Rattle.nodes.specs.Meaning.{nodeIs}
 use Rattle.table.specs.Slots.{slotAt}
 use Rattle.table.specs.Lookup.{keyOf}
 use Rattle.paths.specs.Chain.{held, stepsAt, slotPath, Chained}
@@ -53,3 +55,8 @@ abbrev pub Grew : List ℕ → ℕ → ℕ → List ℕ → ℕ → List ℕ →
 Grew job places n t i u (grown.Held m) =
     (expand (sys job) places (heldIn job n t) (heldIs job (slotAt t i)) i (sys job .actions) ≡ goes-on (heldIn job m u)) × (m ≤ places) × SoundTo job m u
 Grew job places n t i u grown.Full = expand (sys job) places (heldIn job n t) (heldIs job (slotAt t i)) i (sys job .actions) ≡ full
+
+-- The start node, of that array, is in slot 0.
+pub record Begun (job node after : List ℕ) : Type 0 where
+  pub begins : heldIn job 1 after ≡ startTable (sys job) (nodeIs (constraintCount job) node)
+  pub sound : SoundTo job 1 after
