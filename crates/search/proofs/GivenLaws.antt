@@ -81,31 +81,3 @@ module _ (job table buffer : List ℕ) where
     fine-gives r used after last e h l =
         let d : last ≡ cleared table = h ∙ ap (λ (n : ℕ). replicate n 0) l in
         subst (SearchGives job table buffer) (sym (ap (λ (z : List ℕ). searchEnd r z after) d ∙ e)) ends-right
-
--- ---- the part that holds the plan
-
--- As many steps as are given back are in the buffer.
-abbrev Fit : SearchEnd → Type 0
-Fit e = stepsIn (e .result) ≤ length (e .plan)
-
-answered-fit : (a : Answer) (table buffer : List ℕ) → Fit (calls.answered a table buffer)
-unfolding calls.answered writtenOver stepsIn
-answered-fit (no-plan n) table buffer = omega arith
-answered-fit (plan c p) table buffer = go (leb (length p) (length buffer)) refl
-  where
-    go : (b : Bool) → leb (length p) (length buffer) ≡ b → Fit (calls.answered (plan c p) table buffer)
-    go true e = rw (e, calls.answered) (simp length-append (omega arith))
-    go false e = rw (e, calls.answered) (omega arith)
-
-ruled-fit : (job table buffer : List ℕ) → Fit (ruled job table buffer)
-unfolding ruled stepsIn
-ruled-fit job table buffer = go (jobVerdict job) refl
-  where
-    go : (v : Verdict) → jobVerdict job ≡ v → Fit (ruled job table buffer)
-    go Fine e = rw (e, ruled) (answered-fit (solveJob (jobOf job)) table buffer)
-    go (Bad r) e = rw (e, ruled) (omega arith)
-
-pub gives-fit : (job table buffer : List ℕ) {e : SearchEnd} → SearchGives job table buffer e → Fit e
-unfolding tooSmall stepsIn
-gives-fit job table buffer (inl h) = subst Fit (sym h) (ruled-fit job table buffer)
-gives-fit job table buffer (inr h) = rw (h .1) (omega arith)

@@ -3,3 +3,5 @@ pub mod FirstGoal
 pub mod TurnLaws
 pub mod StartLaws
 pub mod GivenLaws
+pub mod Ways
+pub mod Demand

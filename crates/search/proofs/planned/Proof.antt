@@ -4,7 +4,7 @@ use native.Mathlib.Omega.{arith}
 use lib.ListN.{length, take}
 use lib.Seq.{length-take-le}
 use Rattle.search.specs.Given.{searchEnd, partOf}
-use Rattle.search.proofs.GivenLaws.{gives-fit}
+use Rattle.search.proofs.Ways.{way, steps-fit}
 use borrow.Author.Needs.{needs}
 use Rattle.search.proofs.planned.Statement.{statement}
 use Rattle.search.proofs.planned.Tie as tie
@@ -25,7 +25,7 @@ steps-of-requires c κs = search needs
 slice-aggregate-result : tie.Need-slice-aggregate-result
 slice-aggregate-result c = sym (length-take-le _ (c .before .before .before .before .before .before .search .last .1 .1 .0) (let x = c .before .before .before .before .before .before in
     let s = x .before .before .before .before .before .before .args in
-    omega (arith, c .before .steps-of .ensures, gives-fit (s .job .now) (s .table .now) (s .plan .now) (x .search .ensures))))
+    omega (arith, c .before .steps-of .ensures, steps-fit (s .job .now) (s .table .now) (s .plan .now) (way (s .job .now) (s .table .now) (s .plan .now) (x .search .ensures)))))
 
 -- src/lib.rt:48:1
 same-length : tie.Need-same-length
