@@ -1,0 +1,9 @@
+-- Laws for the proofs of the functions.
+pub mod Cases
+pub mod Making
+pub mod Arrival
+pub mod Merging
+pub mod Relaxing
+pub mod Growing
+pub mod GrowthLaws
+pub mod Turns

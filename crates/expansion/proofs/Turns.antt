@@ -1,0 +1,112 @@
+-- All actions in order: what holds when those below a were followed, and how it comes out.
+use mathlib.Core.Path.{_≡_, refl, sym, ap, _∙_, subst}
+use mathlib.Core.Bool.{true}
+use mathlib.Core.List.{List}
+use Prim.Native.Nat.{ℕ, suc, _+_, _≤_, _<_}
+use native.Mathlib.Numerals.{add-one}
+use native.Mathlib.Omega.{arith}
+use lib.ListN.{length}
+use Rattle.model.specs.exploration.System.{System}
+use Rattle.model.specs.job.Layout.{actionCount}
+use Rattle.model.specs.search.Node.{Node}
+use Rattle.table.specs.declared.Slot.{Slot}
+use Rattle.table.specs.Slots.{slotAt}
+use Rattle.dijkstra.specs.Records as search
+use Rattle.dijkstra.specs.Records.{take-it}
+use Rattle.dijkstra.specs.Search.{Filled, goes-on, follow, expand}
+use Rattle.dijkstra.proofs.Sending.{Expanding}
+use Rattle.dijkstra.proofs.Following.{Went}
+use Rattle.dijkstra.proofs.Expansion.{follow-taken}
+use Rattle.held.specs.Held.{sys, heldIs, heldIn}
+use Rattle.held.specs.Running.{Running, Busy}
+use Rattle.held.proofs.JobLaws.{sys-laws, sys-actions}
+use Rattle.held.proofs.HeldLaws.{held-is}
+use Rattle.expansion.specs.declared.Grown.{Grown}
+use Rattle.expansion.specs.declared.Grown.the-variants.{Held, Full}
+use Rattle.expansion.specs.Arrivals.{Arriving}
+use Rattle.expansion.specs.Growth.{grownIs, Grew}
+use Rattle.expansion.proofs.Cases as cases
+use Rattle.expansion.proofs.GrowthLaws.{grew-none, grew-held, grew-running}
+
+-- To take what is taken changes nothing.
+take-again : (S : System) (r : search.Held S) → r .taken ≡ true → take-it S r ≡ r
+unfolding take-it
+take-again S r e = λ d. record { node = r .node; key = r .key; hints = r .hints; parent = r .parent; action = r .action; taken = sym e d }
+
+-- The actions below a were followed: n0 slots of t0 were in use at first, n of t are now.
+pub record Going (job : List ℕ) (places n0 : ℕ) (t0 : List ℕ) (i : ℕ) (from : Slot) (n : ℕ) (t : List ℕ) (a : ℕ) : Type 0 where
+  pub m0 : Node
+  pub running : Running job m0 places n t
+  pub expanding : Expanding (sys job) m0 (heldIn job n t) i (heldIs job from) a
+  pub inside : i < n
+  pub upTo : a ≤ actionCount job
+  pub followed : expand (sys job) places (heldIn job n0 t0) (heldIs job from) i a ≡ goes-on (heldIn job n t)
+
+-- At first, none was.
+pub going-start : {job : List ℕ} {places n : ℕ} {t : List ℕ} {i : ℕ} {from : Slot} → Busy job places n t i 0 → from ≡ slotAt t i → Going job places n t i from n t 0
+unfolding expand
+going-start {job} {places} {n} {t} {i} b e =
+    subst (λ (s : Slot). Going job places n t i s n t 0) (sym e)
+    (record { m0 = b .0; running = b .1; expanding = b .3; inside = b .2; upTo = omega arith; followed = refl })
+
+module _ {job : List ℕ} {places n0 : ℕ} {t0 : List ℕ} {i : ℕ} {from : Slot} {n : ℕ} {t : List ℕ} {a : ℕ} (g : Going job places n0 t0 i from n t a) where
+  -- what all actions come to
+  abbrev all : Filled (sys job)
+  all = expand (sys job) places (heldIn job n0 t0) (heldIs job (slotAt t0 i)) i (sys job .actions)
+
+  all-from : from ≡ slotAt t0 i → expand (sys job) places (heldIn job n0 t0) (heldIs job from) i (sys job .actions) ≡ all
+  all-from e = ap (λ (s : Slot). expand (sys job) places (heldIn job n0 t0) (heldIs job s) i (sys job .actions)) e
+
+  -- After the last action, the table goes on.
+  pub going-end : from ≡ slotAt t0 i → actionCount job ≤ a → Grew job places all (Held n) t
+  unfolding grownIs
+  going-end e l =
+      let z : sys job .actions ≡ a = omega (arith, sys-actions job, g .upTo) in
+      record {
+        grows = sym (all-from e) ∙ ap (expand (sys job) places (heldIn job n0 t0) (heldIs job from) i) z ∙ g .followed;
+        fits = (g .running .used, g .running .sound);
+      }
+
+  -- ---- the next action
+
+  module _ (l : a < actionCount job) where
+    pub going-next : Arriving job places n t i from a
+    going-next = record { m0 = g .m0; running = g .running; expanding = g .expanding; inside = g .inside; known = l }
+
+    abbrev next : Filled (sys job)
+    next = follow (sys job) places (heldIn job n t) (heldIs job from) i a
+
+    more : expand (sys job) places (heldIn job n0 t0) (heldIs job from) i (suc a) ≡ next
+    more = cases.expand-on (sys job) places (heldIs job from) i (heldIn job n0 t0) (heldIn job n t) a (g .followed)
+
+    -- The table is full, and stays so,
+    pub going-full : {r : Grown} {u : List ℕ} → from ≡ slotAt t0 i → r ≡ Full → Grew job places next r u → Grew job places all Full u
+    unfolding grownIs
+    going-full e d w = record {
+      grows = sym (all-from e)
+          ∙ cases.expand-full (sys job) places (heldIs job from) i (heldIn job n0 t0) (suc a) (sys job .actions) (more ∙ grew-none w d) (omega (arith, sys-actions job));
+      fits = tt;
+    }
+
+    went : Went (sys job) (sys-laws job) places (g .m0) (heldIn job n t) i (heldIs job from) (suc a) next
+    went =
+        let e = take-again (sys job) (heldIs job from) (g .expanding .taken) in
+        subst (λ (r : search.Held (sys job)). Went (sys job) (sys-laws job) places (g .m0) (heldIn job n t) i r (suc a) next) e
+        (follow-taken (sys job) (sys-laws job) places (heldIs job from)
+        (subst (λ (r : search.Held (sys job)). Expanding (sys job) (g .m0) (heldIn job n t) i r a) (sym e) (g .expanding)) (omega (arith, sys-actions job)))
+
+    -- or it goes on.
+    pub going-on : {r : Grown} {u : List ℕ} {m : ℕ} → r ≡ Held m → Grew job places next r u → length u ≡ length t → Going job places n0 t0 i from m u (a + 1)
+    going-on {r} {u} {m} d w k =
+        let e : next ≡ goes-on (heldIn job m u) = grew-held w d in
+        let x : Went (sys job) (sys-laws job) places (g .m0) (heldIn job n t) i (heldIs job from) (suc a) (goes-on (heldIn job m u)) =
+        subst (Went (sys job) (sys-laws job) places (g .m0) (heldIn job n t) i (heldIs job from) (suc a)) e went in
+        rw (add-one a)
+        (record {
+          m0 = g .m0;
+          running = grew-running w (g .running) d k;
+          expanding = x .0;
+          inside = held-is job m u i (x .0 .held) .0;
+          upTo = l;
+          followed = more ∙ e;
+        })

@@ -1,0 +1,21 @@
+-- `follow` makes an arrival where the action leads to a node.
+use borrow.Author.Tests.{not-true, not-false}
+use Rattle.expansion.proofs.Growing.{grew-nowhere, grew-to}
+use borrow.Author.Needs.{needs}
+use Rattle.expansion.proofs.follow.Statement.{statement}
+use Rattle.expansion.proofs.follow.Tie as tie
+
+returns : tie.Need-returns
+returns c =
+    let n = c .before .before in
+    let s = n .before .before .before .before in
+    grew-nowhere (s .pre) (n .next .ensures) (not-true _ (c .if1 .taken))
+
+returns-2 : tie.Need-returns-2
+returns-2 c =
+    let e = c .before .before .before .before .before in
+    let n = e .before .before in
+    grew-to (n .before .before .before .before .pre) (n .next .ensures) (not-false _ (e .if1 .left)) (c .before .before .arrive .ensures)
+
+pub follow-spec : {M : Type 1} → statement M
+follow-spec = tie.close (tie.spec (λ c κs. search needs) returns (λ c κs. search needs) (λ c. search needs) returns-2)
