@@ -27,12 +27,15 @@ use Rattle.held.proofs.JobLaws.{sys-laws}
 use Rattle.held.proofs.HeldLaws.{held-at}
 use Rattle.held.proofs.Storing.{mark-held, mark-sound}
 use Rattle.held.proofs.Chains.{chained}
+use Rattle.expansion.specs.declared.Grown.{Grown}
+use Rattle.expansion.specs.declared.Grown.the-variants as grown
+use Rattle.expansion.specs.Growth.{Grew}
+use Rattle.expansion.proofs.GrowthLaws.{grew-none, grew-held, grew-running}
 use Rattle.search.specs.declared.Ended.{Ended}
 use Rattle.search.specs.declared.Ended.the-variants as ended
 use Rattle.search.specs.declared.Turn.the-variants.{On, End}
-use Rattle.search.specs.declared.Grown.the-variants as grown
 use Rattle.search.specs.GoalSlots.{firstDue, Behind}
-use Rattle.search.specs.Outcome.{EndsAs, Turned, keyAt, Least, Taking, Grew}
+use Rattle.search.specs.Outcome.{EndsAs, Turned, keyAt, Least, Taking}
 use Rattle.search.proofs.GoalLaws.{due-behind}
 use Rattle.search.proofs.FirstGoal.{pathFound, goal-found}
 
@@ -84,11 +87,6 @@ expand-taken S places t r i (suc c) =
     ap (λ (g : Filled S). elim g as (λ z. Filled S) [ full ↦ full | goes-on u ↦ follow S places u r i c ]) (expand-taken S places t r i c)
 
 -- ---- a job's table
-
--- What holds while a search runs holds of another table of that length.
-running-on : {job : List ℕ} {m0 : Node} {places n : ℕ} {t : List ℕ} → Running job m0 places n t
-    → (m : ℕ) (u : List ℕ) → length u ≡ length t → m ≤ places → SoundTo job m u → Running job m0 places m u
-running-on r m u e l s = record { accepted = r .accepted; starts = r .starts; room = omega (arith, r .room); most = r .most; used = l; sound = s }
 
 -- The slots in use fit into the table, and are chained.
 pub idle-room : {job : List ℕ} {places n : ℕ} {t : List ℕ} → Idle job places n t → n * 160 ≤ length t
@@ -159,7 +157,9 @@ module _ {job : List ℕ} {places n : ℕ} {t : List ℕ} {i : ℕ} (taking : Ta
   same = mark-held job t u i marked n inside room
 
   running : Running job (taking .idle .0) places n u
-  running = running-on (taking .idle .1) n u size (taking .idle .1 .used) (mark-sound job t u i marked n inside room (taking .idle .1 .sound))
+  running =
+      let x = taking .idle .1 in
+      record { accepted = x .accepted; starts = x .starts; room = omega (arith, x .room); most = x .most; used = x .used; sound = mark-sound job t u i marked n inside room (x .sound) }
 
   -- It is cut, and the search goes on;
   pub cut-on : sys job .cut (r .hints) ≡ true → Turned job places n t u (On n)
@@ -179,20 +179,18 @@ module _ {job : List ℕ} {places n : ℕ} {t : List ℕ} {i : ℕ} (taking : Ta
     pub uncut-busy : Busy job places n u i 0
     uncut-busy = (taking .idle .0, running, inside, subst (λ (q : Held (sys job)). Expanding (sys job) (taking .idle .0) (heldIn job n u) i q 0) now-taken expanding)
 
-    abbrev expanded : Filled (sys job)
-    expanded = expand (sys job) places (heldIn job n u) (heldIs job (slotAt u i)) i (sys job .actions)
+    -- After its expansion the table is v: the search goes on, or it was full.
+    module _ {x : Grown} {v : List ℕ} (grew : Grew job places (expand (sys job) places (heldIn job n u) (heldIs job (slotAt u i)) i (sys job .actions)) x v) where
+      same-expanded : expand (sys job) places (mark (sys job) T i) r i (sys job .actions) ≡ expand (sys job) places (heldIn job n u) (heldIs job (slotAt u i)) i (sys job .actions)
+      same-expanded =
+          expand-taken (sys job) places (mark (sys job) T i) r i (sys job .actions)
+          ∙ (λ z. expand (sys job) places (sym same z) (now-taken z) i (sys job .actions))
 
-    is-expanded : expand (sys job) places (mark (sys job) T i) r i (sys job .actions) ≡ expanded
-    is-expanded =
-        expand-taken (sys job) places (mark (sys job) T i) r i (sys job .actions)
-        ∙ (λ z. expand (sys job) places (sym same z) (now-taken z) i (sys job .actions))
+      pub grown-turned : (m : ℕ) → x ≡ grown.Held m → length v ≡ length u → Turned job places n t v (On m)
+      grown-turned m e l =
+          let w = same-expanded ∙ grew-held grew e in
+          let ready = subst (turning.Turned (sys job) places (taking .idle .2) (taking .chosen .least) slot (taking .noGoal) (sys-laws job)) w (turn-expanded (sys job) places (taking .idle .2) (taking .chosen .least) slot (taking .noGoal) (sys-laws job) c) in
+          ((taking .idle .0, grew-running grew running e l, ready .0), λ k. turn-on (sys job) places T k (taking .chosen .least) (taking .noGoal) slot c w)
 
-    -- After its expansion the search goes on, or the table was full.
-    pub grown-turned : (v : List ℕ) → length v ≡ length u → (m : ℕ) → Grew job places n u i v (grown.Held m) → Turned job places n t v (On m)
-    grown-turned v e m g =
-        let w = is-expanded ∙ g .0 in
-        let ready = subst (turning.Turned (sys job) places (taking .idle .2) (taking .chosen .least) slot (taking .noGoal) (sys-laws job)) w (turn-expanded (sys job) places (taking .idle .2) (taking .chosen .least) slot (taking .noGoal) (sys-laws job) c) in
-        ((taking .idle .0, running-on (taking .idle .1) m v (e ∙ size) (g .1) (g .2), ready .0), λ k. turn-on (sys job) places T k (taking .chosen .least) (taking .noGoal) slot c w)
-
-    pub full-ends : (v : List ℕ) → Grew job places n u i v grown.Full → Turned job places n t v (End ended.Full)
-    full-ends v g = λ k. turn-full (sys job) places T k (taking .chosen .least) (taking .noGoal) slot c (is-expanded ∙ g)
+      pub full-ends : x ≡ grown.Full → Turned job places n t v (End ended.Full)
+      full-ends e = λ k. turn-full (sys job) places T k (taking .chosen .least) (taking .noGoal) slot c (same-expanded ∙ grew-none grew e)

@@ -7,20 +7,18 @@ use lib.ListN.{length}
 use Rattle.model.specs.exploration.Key.{Key}
 use Rattle.model.specs.exploration.Equations.{plan, no-plan}
 use Rattle.dijkstra.specs.Records.{leastOpen}
-use Rattle.dijkstra.specs.Search.{Result, answered, too-small, goes-on, full, expand, firstGoal, turns, startTable}
+use Rattle.dijkstra.specs.Search.{Result, answered, too-small, firstGoal, turns, startTable}
 use Rattle.model.specs.job.Layout.{constraintCount}
 use Rattle.nodes.specs.Meaning.{nodeIs}
 use Rattle.table.specs.Slots.{slotAt}
 use Rattle.table.specs.Lookup.{keyOf}
 use Rattle.paths.specs.Chain.{held, stepsAt, slotPath, Chained}
-use Rattle.held.specs.Held.{sys, heldIs, heldIn, SoundTo}
+use Rattle.held.specs.Held.{sys, heldIn, SoundTo}
 use Rattle.held.specs.Running.{Idle}
 use Rattle.search.specs.declared.Ended.{Ended}
 use Rattle.search.specs.declared.Ended.the-variants as ended
 use Rattle.search.specs.declared.Turn.{Turn}
 use Rattle.search.specs.declared.Turn.the-variants.{On, End}
-use Rattle.search.specs.declared.Grown.{Grown}
-use Rattle.search.specs.declared.Grown.the-variants as grown
 
 -- A table's bytes and what the code says of them are this result. A goal's path can be followed from slot to slot.
 abbrev pub EndsAs : List ℕ → Ended → Result → Type 0
@@ -50,11 +48,6 @@ pub record Taking (job : List ℕ) (places n : ℕ) (t : List ℕ) (i : ℕ) : T
   pub idle : Idle job places n t
   pub chosen : Least job n t i
   pub noGoal : firstGoal (sys job) (heldIn job n t) (keyAt t i) (heldIn job n t) 0 ≡ none
-
-abbrev pub Grew : List ℕ → ℕ → ℕ → List ℕ → ℕ → List ℕ → Grown → Type 0
-Grew job places n t i u (grown.Held m) =
-    (expand (sys job) places (heldIn job n t) (heldIs job (slotAt t i)) i (sys job .actions) ≡ goes-on (heldIn job m u)) × (m ≤ places) × SoundTo job m u
-Grew job places n t i u grown.Full = expand (sys job) places (heldIn job n t) (heldIs job (slotAt t i)) i (sys job .actions) ≡ full
 
 -- The start node, of that array, is in slot 0.
 pub record Begun (job node after : List ℕ) : Type 0 where

@@ -24,11 +24,6 @@ pub enum Turn {
     End(Ended),
 }
 
-pub enum Grown {
-    Held(usize),
-    Full,
-}
-
 // Searches for the job's plan, and writes it to the front of the plan buffer. Bytes that are no job are refused with nothing touched; on every
 // other way out each byte of the table is zero.
 pub fn search(job: &[u8], table: &mut [u8], plan: &mut [u8]) -> Searched

@@ -1,8 +1,8 @@
 // The turns of the search. Each takes the open slot of the least key, until a goal has that key or no slot is open.
 use super::Ended;
-use super::Grown;
 use super::Turn;
 use super::goals;
+use expansion::Grown;
 use table::Found;
 use table::lookup;
 use table::slots;
@@ -14,15 +14,8 @@ ghost use Rattle.model.specs.exploration.Equations.{no-plan};
 ghost use Rattle.model.specs.job.Decoding.{jobVerdict};
 ghost use Rattle.dijkstra.specs.Search.{exhausted, turns};
 ghost use Rattle.held.specs.Held.{sys, heldIn};
-ghost use Rattle.held.specs.Running.{Idle, Busy};
-ghost use Rattle.search.specs.Outcome.{EndsAs, Turned, Least, Taking, Grew};
-
-fn expand(job: &[u8], t: &mut [u8], n: usize, places: usize, i: usize) -> Grown
-    requires { ⌜ Busy (now job) places n (now t) i 0 ⌝ }
-    ensures { λ r. ⌜ Grew (now (job .entry)) places n (now (t .entry)) i (now (t .exit)) r ⌝ }
-{
-    Grown::Full
-}
+ghost use Rattle.held.specs.Running.{Idle};
+ghost use Rattle.search.specs.Outcome.{EndsAs, Turned, Least, Taking};
 
 // The refusal where no slot is open: 11 if some node was cut, else 12.
 fn refusal(job: &[u8], t: &[u8], n: usize) -> u8
@@ -42,7 +35,7 @@ fn take(job: &[u8], t: &mut [u8], n: usize, places: usize, i: usize) -> Turn
     if cut {
         return Turn::On(n);
     }
-    match expand(job, t, n, places, i) {
+    match expansion::expand(job, t, n, places, i) {
         Grown::Held(m) => Turn::On(m),
         Grown::Full => Turn::End(Ended::Full),
     }

@@ -7,7 +7,7 @@ use Rattle.search.proofs.turns.take.Tie as tie
 use Rattle.search.proofs.turns.take.Reads as reads
 use Rattle.search.proofs.turns.take.Lts as lts
 use Rattle.search.proofs.goals.slot_cut.Reads as slot-cut-reads
-use Rattle.search.proofs.turns.expand.Reads as expand-reads
+use Rattle.expansion.proofs.expand.Reads as expand-reads
 use Rattle.table.proofs.slots.mark.Reads as mark-reads
 
 -- src/turns.rt:40:9
@@ -48,7 +48,7 @@ same-length-2 c = search needs
 returns-2 : tie.Need-returns-2
 returns-2 c = let x = c .before .before .before .before .before in
     let m = x .before .before .before .before .before in
-    grown-turned (m .before .before .before .before .before .before .pre) (m .mark .last .0) (m .mark .ensures) (omega arith) (sym (m .before .before .slot-cut .ensures) ∙ x .before .before .if1 .left) (x .expand .last .1 .0) (omega arith) _ (rw (c .before .m .given .1) at (x .expand .ensures))
+    grown-turned (m .before .before .before .before .before .before .pre) (m .mark .last .0) (m .mark .ensures) (omega arith) (sym (m .before .before .slot-cut .ensures) ∙ x .before .before .if1 .left) (x .expand .ensures) _ (c .before .m .given .1) (omega arith)
 
 -- src/turns.rt:36:1
 same-length-3 : tie.Need-same-length-3
@@ -58,7 +58,7 @@ same-length-3 c = search needs
 returns-3 : tie.Need-returns-3
 returns-3 c = let x = c .before .before .before .before in
     let m = x .before .before .before .before .before in
-    full-ends (m .before .before .before .before .before .before .pre) (m .mark .last .0) (m .mark .ensures) (omega arith) (sym (m .before .before .slot-cut .ensures) ∙ x .before .before .if1 .left) (x .expand .last .1 .0) (rw (c .enum-told .given .1) at (x .expand .ensures))
+    full-ends (m .before .before .before .before .before .before .pre) (m .mark .last .0) (m .mark .ensures) (omega arith) (sym (m .before .before .slot-cut .ensures) ∙ x .before .before .if1 .left) (x .expand .ensures) (c .enum-told .given .1)
 
 pub take-spec : {M : Type 1} → statement M
 take-spec =
