@@ -1,5 +1,5 @@
 -- Demand 3 in its own words, about the end of a search on job bytes: what comes out of `search`, whatever was lent to it.
-use mathlib.Core.Path.{_≡_, refl, sym, ap, _∙_, subst}
+use mathlib.Core.Path.{_≡_, refl, sym, ap, _∙_}
 use mathlib.Core.Bool.{true}
 use mathlib.Core.Logic.{_⊎_, inl, inr}
 use mathlib.Core.List.{List, [], _++_}
@@ -7,6 +7,7 @@ use Prim.Native.Nat.{ℕ, _≤_, _<_}
 use native.Mathlib.Omega.{arith}
 use lib.ListN.{length, take, drop}
 use lib.Seq.{take-at, drop-at}
+use Rattle.model.specs.declared.Refusal.{Refusal}
 use Rattle.model.specs.declared.Verdict.the-variants.{Fine}
 use Rattle.model.specs.declared.Searched.{Searched}
 use Rattle.model.specs.declared.Searched.the-variants.{Planned, Refused}
@@ -21,7 +22,7 @@ use Rattle.model.specs.search.JobSystem.{solveJob, reachedCount}
 use Rattle.model.proofs.job.VerdictLaws.{bad-not-fine}
 use Rattle.model.proofs.job.BestPlan.{MeetsHints}
 use Rattle.model.proofs.job.AcceptedPlans.{AnsweredRight, accepted-right}
-use Rattle.search.specs.Given.{stepsIn, partOf}
+use Rattle.search.specs.Given.{stepsIn, partOf, PartGiven}
 use Rattle.search.proofs.Ways.{Way, no-job, none, whole, short, small, way}
 
 -- "'no plan' is 11 or 12"
@@ -174,3 +175,16 @@ module _ (job table buffer : List ℕ) where
     too-short = length-told w;
     too-small = crowded w;
   }
+
+  -- ---- the part of the plan buffer that `planned` hands back
+
+  module _ {part after : List ℕ} (g : PartGiven job table buffer part after) where
+    -- It is the plan that is handed back,
+    pub part-plan : {c n : ℕ} → g .end .result ≡ Planned c n → Handed (g .end) c n × (part ≡ take n (g .end .plan))
+    unfolding partOf stepsIn
+    part-plan h = (demand-3 (g .end) (g .gives) .plans h, g .part-is ∙ ap (λ (r : Searched). take (stepsIn r) (g .end .plan)) h)
+
+    -- and empty on a refusal.
+    pub part-empty : {r : Refusal} → g .end .result ≡ Refused r → part ≡ []
+    unfolding partOf stepsIn
+    part-empty h = g .part-is ∙ ap (λ (r : Searched). take (stepsIn r) (g .end .plan)) h

@@ -2,10 +2,10 @@
 use mathlib.Core.Path.{_≡_, refl, sym, ap, ap₂, _∙_}
 use mathlib.Core.Bool.{Bool, true, false, not, _&&_}
 use mathlib.Core.Option.{Option, none, some}
-use mathlib.Core.List.{List, [], _∷_, map}
+use mathlib.Core.List.{List, _∷_, map}
 use Prim.Native.Nat.{ℕ, zero, suc, _+_, _*_, _≤_, _<_}
 use native.Mathlib.Omega.{arith}
-use lib.ListN.{length, getD, drop, drop-of-length-le}
+use lib.ListN.{length, drop, drop-of-length-le}
 use lib.Seq.{drop-cons}
 use Rattle.model.specs.exploration.Key.{Key, sameKey, earlier, firstOf}
 use Rattle.model.specs.exploration.System.{System}
@@ -21,7 +21,7 @@ use Rattle.table.specs.declared.Found.the-variants.{At, Nothing}
 use Rattle.table.specs.Slots.{slotAt, noSlot}
 use Rattle.table.specs.Lookup.{keyOf}
 use Rattle.table.proofs.LookupLaws.{length-first, first-at}
-use Rattle.paths.specs.Chain.{held, stepsAt, slotPath, order}
+use Rattle.paths.specs.Chain.{held, slotPath, order}
 use Rattle.held.specs.Held.{sys, heldIs, heldIn, Sound, SoundTo}
 use Rattle.held.proofs.HeldLaws.{held-map, sound-at}
 use Rattle.held.proofs.Chains.{path-held}

@@ -1,22 +1,21 @@
 -- What is given back is what the model says that a search gives.
 use mathlib.Core.Path.{_≡_, refl, sym, ap, _∙_, subst}
-use mathlib.Core.Bool.{Bool, true, false}
+use mathlib.Core.Bool.{true, false}
 use mathlib.Core.Logic.{_⊎_, inl, inr}
 use mathlib.Core.List.{List, _++_}
 use Prim.Native.Nat.{ℕ, _≤_, _<_}
 use native.Mathlib.Omega.{arith}
 use lib.Dec.{leb}
-use lib.ListN.{length, drop, replicate, length-append, length-drop}
-use borrow.Author.Tests.{le-leb, lt-leb, leb-true}
+use lib.ListN.{length, drop, replicate}
+use borrow.Author.Tests.{le-leb, lt-leb}
 use Rattle.model.specs.declared.Refusal.{Refusal}
-use Rattle.model.specs.declared.Verdict.{Verdict}
 use Rattle.model.specs.declared.Verdict.the-variants.{Fine, Bad}
 use Rattle.model.specs.declared.Searched.{Searched}
 use Rattle.model.specs.declared.Searched.the-variants.{Planned, Refused}
 use Rattle.model.specs.Verdict.{refusal}
 use Rattle.model.specs.calls.Search as calls
-use Rattle.model.specs.calls.Search.{SearchEnd, slotsIn, cleared, writtenOver, ruled, tooSmall, Outnumbered, SearchGives}
-use Rattle.model.specs.exploration.Equations.{Answer, plan, no-plan}
+use Rattle.model.specs.calls.Search.{slotsIn, cleared, writtenOver, ruled, tooSmall, SearchGives}
+use Rattle.model.specs.exploration.Equations.{no-plan}
 use Rattle.model.specs.exploration.Explore.{reached, solve}
 use Rattle.model.specs.job.Layout.{jobOf}
 use Rattle.model.specs.job.Decoding.{jobVerdict}
@@ -25,7 +24,7 @@ use Rattle.dijkstra.specs.Search.{Result, answered, too-small, searchIn}
 use Rattle.dijkstra.proofs.Right.{search-right}
 use Rattle.held.specs.Held.{sys}
 use Rattle.held.proofs.JobLaws.{sys-laws, sys-finite}
-use Rattle.search.specs.Given.{searchEnd, endOf, HandsOver, stepsIn, partOf}
+use Rattle.search.specs.Given.{searchEnd, endOf, HandsOver}
 
 -- ---- a path handed over
 

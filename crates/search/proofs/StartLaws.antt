@@ -16,16 +16,15 @@ use Rattle.model.specs.job.Layout.{constraintCount, hintCount, jobOf}
 use Rattle.model.specs.job.Decoding.{jobVerdict}
 use Rattle.model.specs.search.Node.{Node}
 use Rattle.model.specs.search.JobSystem.{startNode, isGoal, startHints}
-use Rattle.dijkstra.specs.Records.{Held, Table}
+use Rattle.dijkstra.specs.Records.{Held}
 use Rattle.dijkstra.specs.Search.{Result, answered, too-small, turns, startTable, searchIn}
 use Rattle.dijkstra.proofs.Turning.{Ready, start-ready}
 use Rattle.table.specs.declared.Slot.{Slot}
 use Rattle.table.specs.Slots.{slots}
-use Rattle.nodes.specs.Meaning.{nodeIs, hintsIs, Clean, Carries}
-use Rattle.held.specs.Held.{sys, heldIs, heldIn, Sound, SoundTo}
+use Rattle.nodes.specs.Meaning.{nodeIs, Clean, Carries}
+use Rattle.held.specs.Held.{sys, heldIs, heldIn, Sound}
 use Rattle.held.specs.Running.{Idle}
 use Rattle.held.proofs.JobLaws.{sys-laws}
-use Rattle.held.proofs.HeldLaws.{held-map}
 use Rattle.held.proofs.Storing.{append-held, append-sound}
 use Rattle.search.specs.declared.Ended.{Ended}
 use Rattle.search.specs.Outcome.{EndsAs, Begun}
@@ -57,9 +56,11 @@ module _ (job t u node hints : List ℕ) (goal : Bool) (clean : Clean (constrain
 pub begun-idle : {job : List ℕ} {places : ℕ} {u node : List ℕ} → jobVerdict job ≡ Fine → startNode (jobOf job) ≡ some (nodeIs (constraintCount job) node) → Begun job node u
     → places * 160 ≤ length u → places ≤ 65536 → 0 < places → Idle job places 1 u
 begun-idle {job} {places} {u} {node} fine starts b room most l =
-    let m0 : Node = nodeIs (constraintCount job) node in
-    (m0, record { accepted = fine; starts = starts; room = room; most = most; used = l; sound = b .sound },
-    subst (Ready (sys job) places m0) (sym (b .begins)) (start-ready (sys job) places (sys-laws job) m0 l))
+    let m0 : Node = nodeIs (constraintCount job) node in (
+      m0,
+      record { accepted = fine; starts = starts; room = room; most = most; used = l; sound = b .sound },
+      subst (Ready (sys job) places m0) (sym (b .begins)) (start-ready (sys job) places (sys-laws job) m0 l),
+    )
 
 -- ---- the whole search, by what the start is
 

@@ -8,7 +8,6 @@ use native.Mathlib.Omega.{arith}
 use lib.ListN.{length, set}
 use Rattle.model.specs.exploration.System.{System}
 use Rattle.model.specs.exploration.Equations.{plan, no-plan}
-use Rattle.model.specs.search.Node.{Node}
 use Rattle.dijkstra.specs.Records.{Held, Open, Table, leastOpen, take-it, mark}
 use Rattle.dijkstra.specs.Search.{Result, answered, too-small, Filled, goes-on, full, follow, expand, firstGoal, someCutIn, exhausted, turns}
 use Rattle.dijkstra.proofs.Slots.{Holds, holds-one}
@@ -21,7 +20,7 @@ use Rattle.table.specs.declared.Found.the-variants.{At, Nothing}
 use Rattle.table.specs.Slots.{slots, slotAt, takenSlot}
 use Rattle.table.proofs.LookupLaws.{length-first, first-at}
 use Rattle.paths.specs.Chain.{held, stepsAt, slotPath, Chained}
-use Rattle.held.specs.Held.{sys, heldIs, heldIn, SoundTo}
+use Rattle.held.specs.Held.{sys, heldIs, heldIn}
 use Rattle.held.specs.Running.{Running, Idle, Busy}
 use Rattle.held.proofs.JobLaws.{sys-laws}
 use Rattle.held.proofs.HeldLaws.{held-at}
@@ -164,9 +163,10 @@ module _ {job : List ℕ} {places n : ℕ} {t : List ℕ} {i : ℕ} (taking : Ta
   -- It is cut, and the search goes on;
   pub cut-on : sys job .cut (r .hints) ≡ true → Turned job places n t u (On n)
   cut-on c =
-      let ready = turn-cut (sys job) places (taking .idle .2) (taking .chosen .least) slot (taking .noGoal) c .0 in
-      ((taking .idle .0, running, subst (Ready (sys job) places (taking .idle .0)) (sym same) ready),
-      λ k. turn-cut-on (sys job) places T k (taking .chosen .least) (taking .noGoal) slot c ∙ ap (turns (sys job) places k) (sym same))
+      let ready = turn-cut (sys job) places (taking .idle .2) (taking .chosen .least) slot (taking .noGoal) c .0 in (
+        (taking .idle .0, running, subst (Ready (sys job) places (taking .idle .0)) (sym same) ready),
+        λ k. turn-cut-on (sys job) places T k (taking .chosen .least) (taking .noGoal) slot c ∙ ap (turns (sys job) places k) (sym same),
+      )
 
   -- or its expansion begins.
   module _ (c : sys job .cut (r .hints) ≡ false) where

@@ -3,6 +3,7 @@ mod goals; // goals.rt: the goals of a key, and cut nodes
 mod turns; // turns.rt: one turn of the search, and all of them
 mod start; // start.rt: the start node, and the search from it
 mod result; // result.rt: what is handed back to the caller
+
 use model::Searched;
 use model::Verdict;
 use table::slots;
@@ -12,14 +13,14 @@ ghost use Rattle.search.specs.Given.{searchEnd, PartGiven};
 
 // What a search in a table comes to: the slot of the answer and how many slots are in use; the number of a refusal, 11 or 12; or that the
 // table is full.
-pub enum Ended {
+enum Ended {
     Goal(usize, usize),
     NoPlan(u8),
     Full,
 }
 
 // What one turn comes to: so many slots are in use, or the search ends.
-pub enum Turn {
+enum Turn {
     On(usize),
     End(Ended),
 }

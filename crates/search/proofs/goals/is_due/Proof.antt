@@ -1,3 +1,4 @@
+-- `is_due` tests the cost, the steps and the hints, and then it is the goal mark that decides.
 use mathlib.Core.Path.{_≡_, ap, _∙_}
 use mathlib.Core.Bool.{true, false}
 use Rattle.model.specs.job.Layout.{hintCount}
@@ -10,36 +11,12 @@ use Rattle.search.proofs.GoalLaws.{other-cost, other-steps, not-due, is
 use borrow.Author.Needs.{needs}
 use Rattle.search.proofs.goals.is_due.Statement.{statement}
 use Rattle.search.proofs.goals.is_due.Tie as tie
-use Rattle.search.proofs.goals.is_due.Reads as reads
-use Rattle.search.proofs.goals.is_due.Lts as lts
-use Rattle.nodes.proofs.is_cut.Reads as is-cut-reads
-use Rattle.table.proofs.slots.cost.Reads as cost-reads
-use Rattle.table.proofs.slots.load.Reads as load-reads
-use Rattle.table.proofs.slots.steps.Reads as steps-reads
 
--- src/goals.rt:20:8
-cost-requires : tie.Need-cost-requires
-cost-requires c κs = search needs
-
--- src/goals.rt:21:9
 returns : tie.Need-returns
 returns c = let s = c .before .before .before .before .args in other-cost (s .job .now) (s .cost) (s .steps) _ _ (c .before .cost .ensures .0) (c .if1 .taken)
 
--- src/goals.rt:23:8
-steps-requires : tie.Need-steps-requires
-steps-requires c κs = search needs
-
--- src/goals.rt:24:9
 returns-2 : tie.Need-returns-2
 returns-2 c = let s = c .before .before .before .before .before .before .args in other-steps (s .job .now) (s .cost) (s .steps) _ _ (c .before .steps .ensures .0) (c .if2 .taken)
-
--- src/goals.rt:26:9
-load-requires : tie.Need-load-requires
-load-requires c κs = search needs
-
--- src/goals.rt:28:8
-is-cut-requires : tie.Need-is-cut-requires
-is-cut-requires c κs = search needs
 
 -- What the test of the hints says.
 tested : (c : tie.After-is-cut)
@@ -57,11 +34,9 @@ tested c =
     let t2 = p .if2 .left in
     (not-due (a .job .now) (a .cost) (a .steps) x _ _ e1 e2 t1 t2 _ d, λ e. ap (λ (y : Slot). y .goal) l ∙ is-due (a .job .now) (a .cost) (a .steps) x _ _ e1 e2 t1 t2 _ d e)
 
--- src/goals.rt:29:9
 returns-3 : tie.Need-returns-3
 returns-3 c = tested (c .before) .0 (c .if3 .taken)
 
--- src/goals.rt:16:1
 returns-4 : tie.Need-returns-4
 returns-4 c = tested (c .before) .1 (c .if3 .left)
 
@@ -69,11 +44,11 @@ pub is-due-spec : {M : Type 1} → statement M
 is-due-spec =
     tie.close
     (tie.spec
-    cost-requires
+    (λ c κs. search needs)
     returns
-    steps-requires
+    (λ c κs. search needs)
     returns-2
-    load-requires
-    is-cut-requires
+    (λ c κs. search needs)
+    (λ c κs. search needs)
     returns-3
     returns-4)

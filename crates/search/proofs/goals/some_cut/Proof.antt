@@ -1,3 +1,4 @@
+-- `some_cut` goes from slot to slot: the first i are not cut.
 use mathlib.Core.Path.{_≡_, refl}
 use mathlib.Core.List.{map}
 use Prim.Native.Nat.{_≤_, _-_}
@@ -11,9 +12,6 @@ use Rattle.held.specs.Held.{sys, heldIs, heldIn}
 use Rattle.search.proofs.GoalLaws.{cut-here, cut-on, cut-end}
 use Rattle.search.proofs.goals.some_cut.Statement.{statement}
 use Rattle.search.proofs.goals.some_cut.Tie as tie
-use Rattle.search.proofs.goals.some_cut.Reads as reads
-use Rattle.search.proofs.goals.some_cut.Lts as lts
-use Rattle.search.proofs.goals.slot_cut.Reads as slot-cut-reads
 
 abbrev Inv-loop : tie.InvT-loop
 Inv-loop job t n i₀ i = (someCutIn (sys job) (map (heldIs job) (held t n)) ≡ someCutIn (sys job) (map (heldIs job) (drop i (held t n)))) × (i ≤ n)
@@ -21,15 +19,9 @@ Inv-loop job t n i₀ i = (someCutIn (sys job) (map (heldIs job) (held t n)) ≡
 abbrev μ-loop : tie.MeasureT-loop
 μ-loop job t n i₀ i = n - i
 
--- src/goals.rt:91:5
 loop-holds : tie.Need-loop-holds Inv-loop μ-loop
 loop-holds c = (refl, omega arith)
 
--- src/goals.rt:92:12
-slot-cut-requires : tie.Need-slot-cut-requires Inv-loop μ-loop
-slot-cut-requires c κs = search needs
-
--- src/goals.rt:93:13
 returns : tie.Need-returns Inv-loop μ-loop
 unfolding heldIn
 returns c =
@@ -37,22 +29,12 @@ returns c =
     let l = c .before .before .before .loop in
     cut-here (s .args .job .now) (held (s .args .t .now) (s .args .n)) (l .i) _ _ (l .inv .0) (first-at (s .args .t .now) (s .args .n) (l .i) (omega arith)) (c .before .slot-cut .ensures) (omega (arith, length-first (s .args .t .now) (s .args .n) (s .pre .1))) (c .if1 .taken)
 
--- src/goals.rt:95:9
-add-i : tie.Need-add-i Inv-loop μ-loop
-add-i c = search needs
-
--- src/goals.rt:91:5
-loop-less : tie.Need-loop-less Inv-loop μ-loop
-loop-less c = search needs
-
--- src/goals.rt:91:5
 loop-again : tie.Need-loop-again Inv-loop μ-loop
 loop-again c =
     let s = c .before .before .before .before .before .before in
     let l = c .before .before .before .loop in
     (cut-on (s .args .job .now) (held (s .args .t .now) (s .args .n)) (l .i) _ _ (l .inv .0) (first-at (s .args .t .now) (s .args .n) (l .i) (omega arith)) (c .before .slot-cut .ensures) (omega (arith, length-first (s .args .t .now) (s .args .n) (s .pre .1))) (c .if1 .left), omega arith)
 
--- src/goals.rt:86:1
 returns-2 : tie.Need-returns-2 Inv-loop μ-loop
 unfolding heldIn
 returns-2 c =
@@ -67,9 +49,9 @@ some-cut-spec =
     Inv-loop
     μ-loop
     loop-holds
-    slot-cut-requires
+    (λ c κs. search needs)
     returns
-    add-i
-    loop-less
+    (λ c. search needs)
+    (λ c. search needs)
     loop-again
     returns-2)

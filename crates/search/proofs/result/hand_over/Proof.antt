@@ -1,3 +1,4 @@
+-- `hand_over` has as many steps to write as the slot says, and writes them where they fit.
 use mathlib.Core.Path.{_≡_, sym, _∙_}
 use native.Mathlib.Omega.{arith}
 use lib.ListN.{length}
@@ -7,11 +8,6 @@ use Rattle.search.proofs.GivenLaws.{too-short, written}
 use borrow.Author.Needs.{needs}
 use Rattle.search.proofs.result.hand_over.Statement.{statement}
 use Rattle.search.proofs.result.hand_over.Tie as tie
-use Rattle.search.proofs.result.hand_over.Reads as reads
-use Rattle.search.proofs.result.hand_over.Lts as lts
-use Rattle.paths.proofs.write.Reads as write-reads
-use Rattle.table.proofs.slots.cost.Reads as cost-reads
-use Rattle.table.proofs.slots.steps.Reads as steps-reads
 
 -- The path has as many actions as slot g has steps.
 size : (c : tie.After-steps) → length (slotPath (held (c .before .before .before .args .t .now) (c .before .before .before .args .n)) (stepsAt (held (c .before .before .before .args .t .now) (c .before .before .before .args .n)) (c .before .before .before .args .g)) (c .before .before .before .args .g)) ≡ c .steps .result
@@ -19,30 +15,15 @@ size c =
     let s = c .before .before .before in
     length-path (held (s .args .t .now) (s .args .n)) _ _ ∙ sym (c .steps .ensures .0 ∙ held-steps (s .args .t .now) (s .args .n) (s .args .g) (s .pre .2))
 
--- src/result.rt:24:17
-steps-requires : tie.Need-steps-requires
-steps-requires c κs = search needs
-
--- src/result.rt:26:9
 returns : tie.Need-returns
 returns c = let s = c .before .before .before .before .args in
     too-short _ _ _ (s .plan .now) (size (c .before)) (c .if1 .taken)
 
--- src/result.rt:31:5
 write-requires : tie.Need-write-requires
 write-requires c κs = let x = c .before .before in
     let s = x .before .before .before in
     (s .pre .0, s .pre .1, s .pre .2, omega (arith, x .steps .ensures .0, held-steps (s .args .t .now) (s .args .n) (s .args .g) (s .pre .2)))
 
--- src/result.rt:32:23
-cost-requires : tie.Need-cost-requires
-cost-requires c κs = search needs
-
--- src/result.rt:20:1
-same-length : tie.Need-same-length
-same-length c = search needs
-
--- src/result.rt:20:1
 returns-2 : tie.Need-returns-2
 returns-2 c = let w = c .before .before .before in
     let x = w .before .before .before in
@@ -51,4 +32,4 @@ returns-2 c = let w = c .before .before .before in
 
 pub hand-over-spec : {M : Type 1} → statement M
 hand-over-spec =
-    tie.close (tie.spec steps-requires returns write-requires cost-requires same-length returns-2)
+    tie.close (tie.spec (λ c κs. search needs) returns write-requires (λ c κs. search needs) (λ c. search needs) returns-2)

@@ -1,3 +1,4 @@
+-- `run` makes turns while some are left: what is still to come is what the whole search comes to.
 use mathlib.Core.Path.{_≡_, refl, ap}
 use Prim.Native.Nat.{ℕ, suc, _-_}
 use native.Mathlib.Numerals.{add-one}
@@ -10,9 +11,6 @@ use Rattle.held.specs.Running.{Idle}
 use Rattle.search.proofs.TurnLaws.{turn-again, turn-ends, turns-over}
 use Rattle.search.proofs.turns.run.Statement.{statement}
 use Rattle.search.proofs.turns.run.Tie as tie
-use Rattle.search.proofs.turns.run.Reads as reads
-use Rattle.search.proofs.turns.run.Lts as lts
-use Rattle.search.proofs.turns.turn.Reads as turn-reads
 
 abbrev Inv-loop : tie.InvT-loop
 Inv-loop job t₀ places n₀ left₀ t n left =
@@ -21,33 +19,11 @@ Inv-loop job t₀ places n₀ left₀ t n left =
 abbrev μ-loop : tie.MeasureT-loop
 μ-loop job t₀ places n₀ left₀ t n left = left
 
--- src/turns.rt:81:20
-add-left : tie.Need-add-left Inv-loop μ-loop
-add-left c = search needs
-
--- src/turns.rt:82:5
 loop-holds : tie.Need-loop-holds Inv-loop μ-loop
 loop-holds c =
     let s = c .before .before in
     (s .pre, ap (λ (k : ℕ). turns (sys (s .args .job .now)) (s .args .places) k (heldIn (s .args .job .now) 1 (s .args .t .now))) (add-one (s .args .places)), refl)
 
--- src/turns.rt:83:9
-sub-left : tie.Need-sub-left Inv-loop μ-loop
-sub-left c = search needs
-
--- src/turns.rt:84:15
-turn-requires : tie.Need-turn-requires Inv-loop μ-loop
-turn-requires c κs = search needs
-
--- src/turns.rt:85:22
-enum-known-m : tie.Need-enum-known-m Inv-loop μ-loop
-enum-known-m c = search needs
-
--- src/turns.rt:82:5
-loop-less : tie.Need-loop-less Inv-loop μ-loop
-loop-less c = search needs
-
--- src/turns.rt:82:5
 loop-again : tie.Need-loop-again Inv-loop μ-loop
 loop-again c =
     let x = c .before .before .before .before .before in
@@ -56,15 +32,6 @@ loop-again c =
     let h = rw (c .before .m .given .1) at (x .turn .ensures) in
     (h .0, turn-again (s .job .now) (s .places) (l .n) (l .t) (l .left) (l .left - 1) (l .inv .1) h (omega arith), omega arith)
 
--- src/turns.rt:86:23
-enum-known-e : tie.Need-enum-known-e Inv-loop μ-loop
-enum-known-e c = search needs
-
--- src/turns.rt:86:29
-same-length : tie.Need-same-length Inv-loop μ-loop
-same-length c = search needs
-
--- src/turns.rt:86:29
 returns : tie.Need-returns Inv-loop μ-loop
 returns c =
     let x = c .before .before .before .before .before in
@@ -72,11 +39,6 @@ returns c =
     let s = x .before .before .before .before .before .before .args in
     turn-ends (s .job .now) (s .places) (l .n) (l .t) (l .left) (l .left - 1) (l .inv .1) (x .turn .last .1 .0) (c .before .e .given .0 .0) (rw (c .before .e .given .1) at (x .turn .ensures)) (omega arith)
 
--- src/turns.rt:76:1
-same-length-2 : tie.Need-same-length-2 Inv-loop μ-loop
-same-length-2 c = search needs
-
--- src/turns.rt:76:1
 returns-2 : tie.Need-returns-2 Inv-loop μ-loop
 returns-2 c =
     let l = c .before .loop in
@@ -89,15 +51,15 @@ run-spec =
     (tie.spec
     Inv-loop
     μ-loop
-    add-left
+    (λ c. search needs)
     loop-holds
-    sub-left
-    turn-requires
-    enum-known-m
-    loop-less
+    (λ c. search needs)
+    (λ c κs. search needs)
+    (λ c. search needs)
+    (λ c. search needs)
     loop-again
-    enum-known-e
-    same-length
+    (λ c. search needs)
+    (λ c. search needs)
     returns
-    same-length-2
+    (λ c. search needs)
     returns-2)
