@@ -1,0 +1,82 @@
+-- What is given back is what the model says that a search gives.
+use mathlib.Core.Path.{_≡_, refl, sym, ap, _∙_, subst}
+use mathlib.Core.Bool.{true, false}
+use mathlib.Core.Logic.{_⊎_, inl, inr}
+use mathlib.Core.List.{List, _++_}
+use Prim.Native.Nat.{ℕ, _≤_, _<_}
+use native.Mathlib.Omega.{arith}
+use lib.Dec.{leb}
+use lib.ListN.{length, drop, replicate}
+use borrow.Author.Tests.{le-leb, lt-leb}
+use Rattle.model.specs.declared.Refusal.{Refusal}
+use Rattle.model.specs.declared.Verdict.the-variants.{Fine, Bad}
+use Rattle.model.specs.declared.Searched.{Searched}
+use Rattle.model.specs.declared.Searched.the-variants.{Planned, Refused}
+use Rattle.model.specs.Verdict.{refusal}
+use Rattle.model.specs.calls.Search as calls
+use Rattle.model.specs.calls.Search.{slotsIn, cleared, writtenOver, ruled, tooSmall, SearchGives}
+use Rattle.model.specs.exploration.Equations.{no-plan}
+use Rattle.model.specs.exploration.Explore.{reached, solve}
+use Rattle.model.specs.job.Layout.{jobOf}
+use Rattle.model.specs.job.Decoding.{jobVerdict}
+use Rattle.model.specs.search.JobSystem.{solveJob, reachedCount}
+use Rattle.dijkstra.specs.Search.{Result, answered, too-small, searchIn}
+use Rattle.dijkstra.proofs.Right.{search-right}
+use Rattle.held.specs.Held.{sys}
+use Rattle.held.proofs.JobLaws.{sys-laws, sys-finite}
+use Rattle.search.specs.Given.{searchEnd, endOf, HandsOver}
+
+-- ---- a path handed over
+
+module _ (c k : ℕ) (p buffer : List ℕ) (size : length p ≡ k) where
+  -- The buffer is shorter than the plan: 13, with the plan's length.
+  pub too-short : length buffer < k → HandsOver c p buffer (Refused (refusal 13 k)) buffer
+  unfolding calls.answered
+  too-short l table = let e : leb (length p) (length buffer) ≡ false = lt-leb (length p) (length buffer) (omega arith) in rw (e, calls.answered, size)
+
+  -- Otherwise the plan is written from the buffer's start.
+  pub written : (x j : ℕ) (after : List ℕ) → x ≡ c → after ≡ p ++ drop j buffer → j ≡ k → k ≤ length buffer → HandsOver c p buffer (Planned x k) after
+  unfolding calls.answered writtenOver
+  written x j after d h f l table = let e : leb (length p) (length buffer) ≡ true = le-leb (length p) (length buffer) (omega arith) in rw (e, calls.answered, h, size, d, f)
+
+-- ---- the end of the search
+
+module _ (table buffer : List ℕ) {res : Result} where
+  -- No plan: 11 or 12.
+  pub refused-end : {k : ℕ} → res ≡ answered (no-plan k) → searchEnd (Refused (refusal k 0)) (cleared table) buffer ≡ endOf res table buffer
+  unfolding calls.answered
+  refused-end e = rw e
+
+  -- The table is too small: 10.
+  pub full-end : res ≡ too-small → searchEnd (Refused (refusal 10 0)) (cleared table) buffer ≡ endOf res table buffer
+  unfolding tooSmall
+  full-end e = rw e
+
+module _ (job table buffer : List ℕ) where
+  -- Bytes that are no job are refused, and nothing is touched.
+  pub bad-gives : {r : Refusal} → jobVerdict job ≡ Bad r → SearchGives job table buffer (searchEnd (Refused r) table buffer)
+  unfolding ruled
+  bad-gives e = inl (rw (e, ruled))
+
+  module _ (fine : jobVerdict job ≡ Fine) where
+    ruled-is : ruled job table buffer ≡ calls.answered (solveJob (jobOf job)) table buffer
+    unfolding ruled
+    ruled-is = rw (fine, ruled)
+
+    -- What the search in the table comes to is what a search gives.
+    pub ends-right : SearchGives job table buffer (endOf (searchIn (sys job) (slotsIn table)) table buffer)
+    unfolding solveJob reachedCount
+    ends-right = go (search-right (sys job) (sys-laws job) (sys-finite job fine) (slotsIn table))
+      where
+        go : (searchIn (sys job) (slotsIn table) ≡ answered (solve (sys job))) ⊎ ((slotsIn table < length (reached (sys job))) × (searchIn (sys job) (slotsIn table) ≡ too-small))
+            → SearchGives job table buffer (endOf (searchIn (sys job) (slotsIn table)) table buffer)
+        go (inl e) = inl (rw e (sym ruled-is))
+        go (inr e) = inr ((fine, e .0), rw (e .1) refl)
+
+    -- The table is cleared last.
+    pub fine-gives : (r : Searched) (used after last : List ℕ) → searchEnd r (cleared table) after ≡ endOf (searchIn (sys job) (slotsIn table)) table buffer
+        → last ≡ replicate (length used) 0 → length used ≡ length table → SearchGives job table buffer (searchEnd r last after)
+    unfolding cleared
+    fine-gives r used after last e h l =
+        let d : last ≡ cleared table = h ∙ ap (λ (n : ℕ). replicate n 0) l in
+        subst (SearchGives job table buffer) (sym (ap (λ (z : List ℕ). searchEnd r z after) d ∙ e)) ends-right

@@ -1,0 +1,154 @@
+-- Laws of the goals of a key, in a list of slots.
+use mathlib.Core.Path.{_≡_, refl, sym, ap, _∙_}
+use mathlib.Core.Bool.{Bool, true, false, not, _&&_, _||_}
+use mathlib.Core.List.{List, map}
+use Prim.Native.Nat.{ℕ, zero, suc, _+_, _≤_, _<_}
+use native.Mathlib.Numerals.{add-one}
+use native.Mathlib.Omega.{arith}
+use lib.Dec.{eqb}
+use lib.ListN.{length, getD, drop, drop-of-length-le}
+use lib.Seq.{drop-cons}
+use borrow.Author.Tests.{eq-eqb, ne-eqb}
+use Rattle.model.specs.logic.Formula.{choose}
+use Rattle.model.specs.exploration.Key.{Key, sameKey}
+use Rattle.model.specs.job.Layout.{hintCount}
+use Rattle.model.specs.search.Node.{someDead}
+use Rattle.model.proofs.exploration.KeyLaws.{same-key}
+use Rattle.model.proofs.Tests.{and-both}
+use Rattle.dijkstra.specs.Search.{someCutIn}
+use Rattle.table.specs.declared.Slot.{Slot}
+use Rattle.table.specs.declared.Found.{Found}
+use Rattle.table.specs.declared.Found.the-variants.{At, Nothing}
+use Rattle.table.specs.Slots.{noSlot}
+use Rattle.table.specs.Lookup.{keyOf}
+use Rattle.nodes.specs.Meaning.{hintsIs}
+use Rattle.paths.specs.Chain.{stepsAt, order, Level}
+use Rattle.held.specs.Held.{sys, heldIs}
+use Rattle.search.specs.GoalSlots.{due, chosen, firstDue, Behind}
+
+-- ---- whether a slot is due, test by test
+
+module _ (job : List ℕ) (c s : ℕ) (x : Slot) where
+  -- It has another cost,
+  pub other-cost : (v : ℕ) → v ≡ x .cost → (v ≡ c → ⊥) → false ≡ due job c s x
+  unfolding due sameKey
+  other-cost v e n = rw (ne-eqb (x .cost) c (λ q. n (e ∙ q)), sameKey)
+
+  -- or another number of steps,
+  pub other-steps : (v : ℕ) → v ≡ x .steps → (v ≡ s → ⊥) → false ≡ due job c s x
+  unfolding due sameKey
+  other-steps v e n = go (eqb (x .cost) c)
+    where
+      go : (b : Bool) → false ≡ (elim b [ true ↦ eqb (x .steps) s | false ↦ false ]) && not (someDead (hintsIs (hintCount job) (x .hints))) && x .goal
+      go true = rw (ne-eqb (x .steps) s (λ q. n (e ∙ q)))
+      go false = refl
+
+  module _ (v w : ℕ) (ev : v ≡ x .cost) (ew : w ≡ x .steps) (ec : v ≡ c) (es : w ≡ s) (d : Bool) (cut : d ≡ someDead (hintsIs (hintCount job) (x .hints))) where
+    -- or is cut;
+    pub not-due : d ≡ true → false ≡ due job c s x
+    unfolding due sameKey
+    not-due e = rw (eq-eqb (x .cost) c (sym ev ∙ ec), sameKey, eq-eqb (x .steps) s (sym ew ∙ es), sym cut ∙ e)
+
+    -- or else it is, if it is a goal.
+    pub is-due : d ≡ false → x .goal ≡ due job c s x
+    unfolding due sameKey
+    is-due e = rw (eq-eqb (x .cost) c (sym ev ∙ ec), sameKey, eq-eqb (x .steps) s (sym ew ∙ es), sym cut ∙ e)
+
+  -- A slot that is due has that cost and so many steps.
+  pub due-key : due job c s x ≡ true → (x .cost ≡ c) × (x .steps ≡ s)
+  unfolding due
+  due-key h =
+      let e : keyOf (x .cost) (x .steps) ≡ keyOf c s = same-key _ _ (and-both _ _ .0 (and-both _ _ .0 h .0) .0) in
+      (ap (λ (k : Key). k .cost) e, ap (λ (k : Key). k .steps) e)
+
+-- ---- the choice between slot i and what was found behind it
+
+module _ (ss : List Slot) (d : Bool) (i : ℕ) (f : Found) where
+  pub chosen-not : d ≡ false → f ≡ chosen ss d i f
+  unfolding chosen
+  chosen-not e = go f
+    where
+      go : (g : Found) → g ≡ chosen ss d i g
+      go Nothing = rw e
+      go (At b) = rw e
+
+  pub chosen-only : d ≡ true → f ≡ Nothing → At i ≡ chosen ss d i f
+  unfolding chosen
+  chosen-only e q = rw (q, e)
+
+  pub chosen-behind : (b : ℕ) (o : Bool) → o ≡ order ss b i → d ≡ true → f ≡ At b → o ≡ true → At b ≡ chosen ss d i f
+  unfolding chosen
+  chosen-behind b o p e q h = rw (q, e, ← p, h)
+
+  pub chosen-here : (b : ℕ) (o : Bool) → o ≡ order ss b i → d ≡ true → f ≡ At b → o ≡ false → At i ≡ chosen ss d i f
+  unfolding chosen
+  chosen-here b o p e q h = rw (q, e, ← p, h)
+
+-- What was found behind slot i, which has as many steps, can be compared with it.
+pub behind-level : (ss : List Slot) (n i b c s : ℕ) (f : Found) → f ≡ At b → Behind ss (i + 1) c s f → length ss ≡ n → i < n → stepsAt ss i ≡ s → Level ss n b i
+behind-level ss n i b c s f e h l g q =
+    let k : Behind ss (i + 1) c s (At b) = rw e at h in
+    record { first = omega arith; second = g; differ = λ z. omega arith; level = omega arith }
+
+-- ---- the slots from i on
+
+module _ (job : List ℕ) (c s : ℕ) (ss : List Slot) where
+  abbrev From : ℕ → Found
+  From i = firstDue job c s ss (drop i ss) i
+
+  pub due-none : (i : ℕ) → length ss ≤ i → Nothing ≡ From i
+  unfolding firstDue
+  due-none i g = rw (drop-of-length-le ss g)
+
+  pub due-more : (i : ℕ) → i < length ss → From i ≡ chosen ss (due job c s (getD ss i noSlot)) i (From (suc i))
+  unfolding firstDue
+  due-more i g = rw (drop-cons ss i noSlot g)
+
+  -- A turn of the loop, which counts down.
+  pub due-turn : (i k : ℕ) (x : Slot) (f r : Found) → f ≡ From k → r ≡ chosen ss (due job c s x) i f → k ≡ suc i → getD ss i noSlot ≡ x → i < length ss → r ≡ From i
+  due-turn i k x f r e q d g h = q ∙ rw (e, d, ← g) (sym (due-more i h))
+
+  chosen-from : (i : ℕ) (x : Slot) → getD ss i noSlot ≡ x → (f : Found) → Behind ss (suc i) c s f → i < length ss → Behind ss i c s (chosen ss (due job c s x) i f)
+  unfolding chosen
+  chosen-from i x g f h l = go (due job c s x) refl f h
+    where
+      here : due job c s x ≡ true → Behind ss i c s (At i)
+      here e = let k = due-key job c s x e in (omega arith, l, ap (λ (y : Slot). y .cost) g ∙ k .0, ap (λ (y : Slot). y .steps) g ∙ k .1)
+
+      go : (b : Bool) → due job c s x ≡ b → (f : Found) → Behind ss (suc i) c s f → Behind ss i c s (chosen ss b i f)
+      go true e Nothing h = here e
+      go true e (At b) h = pick (order ss b i)
+        where
+          pick : (o : Bool) → Behind ss i c s (choose o (At b) (At i))
+          pick true = (omega arith, h .1, h .2, h .3)
+          pick false = here e
+      go false e Nothing h = tt
+      go false e (At b) h = (omega arith, h .1, h .2, h .3)
+
+  -- What is found is one of them, of that cost and with so many steps.
+  pub due-behind : (d i : ℕ) → d + i ≡ length ss → Behind ss i c s (From i)
+  due-behind zero i e = rw (← due-none i (omega arith)) tt
+  due-behind (suc d) i e =
+      rw (due-more i (omega arith))
+      (chosen-from i (getD ss i noSlot) refl (From (suc i)) (due-behind d (suc i) (omega arith)) (omega arith))
+
+-- ---- a cut slot among all; the first i are not cut
+
+module _ (job : List ℕ) (ss : List Slot) (i : ℕ) where
+  abbrev CutIn : List Slot → Bool
+  CutIn xs = someCutIn (sys job) (map (heldIs job) xs)
+
+  module _ (x : Slot) (d : Bool) (rest : CutIn ss ≡ CutIn (drop i ss)) (at : getD ss i noSlot ≡ x) (cut : d ≡ sys job .cut (heldIs job x .hints)) (inside : i < length ss) where
+    front : CutIn ss ≡ d || CutIn (drop (suc i) ss)
+    unfolding someCutIn
+    front = rest ∙ rw (drop-cons ss i noSlot inside, at) (ap (λ (b : Bool). b || CutIn (drop (suc i) ss)) (sym cut))
+
+    pub cut-here : d ≡ true → true ≡ CutIn ss
+    cut-here e = sym (front ∙ rw e refl)
+
+    pub cut-on : d ≡ false → CutIn ss ≡ CutIn (drop (i + 1) ss)
+    cut-on e = front ∙ rw (e, add-one i) refl
+
+  pub cut-end : CutIn ss ≡ CutIn (drop i ss) → length ss ≤ i → false ≡ CutIn ss
+  unfolding someCutIn
+  cut-end r g = sym (r ∙ rw (drop-of-length-le ss g))

@@ -1,0 +1,7 @@
+pub mod GoalLaws
+pub mod FirstGoal
+pub mod TurnLaws
+pub mod StartLaws
+pub mod GivenLaws
+pub mod Ways
+pub mod Demand

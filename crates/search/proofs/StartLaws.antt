@@ -1,0 +1,89 @@
+-- The start of a search: the start node in slot 0, and what the whole search comes to.
+use mathlib.Core.Path.{_≡_, refl, sym, ap, _∙_, subst}
+use mathlib.Core.Bool.{Bool, true, false}
+use mathlib.Core.Option.{Option, none, some}
+use mathlib.Core.List.{List, [], _∷_}
+use Prim.Native.Nat.{ℕ, suc, _*_, _≤_, _<_}
+use native.Mathlib.Omega.{arith}
+use lib.Dec.{ltb}
+use lib.ListN.{length, set}
+use borrow.Author.Tests.{lt-ltb, le-ltb}
+use Rattle.model.specs.declared.Verdict.the-variants.{Fine}
+use Rattle.model.specs.exploration.System.{System}
+use Rattle.model.specs.exploration.Key.{zeroKey}
+use Rattle.model.specs.exploration.Equations.{no-plan}
+use Rattle.model.specs.job.Layout.{constraintCount, hintCount, jobOf}
+use Rattle.model.specs.job.Decoding.{jobVerdict}
+use Rattle.model.specs.search.Node.{Node}
+use Rattle.model.specs.search.JobSystem.{startNode, isGoal, startHints}
+use Rattle.dijkstra.specs.Records.{Held}
+use Rattle.dijkstra.specs.Search.{Result, answered, too-small, turns, startTable, searchIn}
+use Rattle.dijkstra.proofs.Turning.{Ready, start-ready}
+use Rattle.table.specs.declared.Slot.{Slot}
+use Rattle.table.specs.Slots.{slots}
+use Rattle.nodes.specs.Meaning.{nodeIs, Clean, Carries}
+use Rattle.held.specs.Held.{sys, heldIs, heldIn, Sound}
+use Rattle.held.specs.Running.{Idle}
+use Rattle.held.proofs.JobLaws.{sys-laws}
+use Rattle.held.proofs.Storing.{append-held, append-sound}
+use Rattle.search.specs.declared.Ended.{Ended}
+use Rattle.search.specs.Outcome.{EndsAs, Begun}
+
+-- ---- the start node in slot 0
+
+-- the slot of a start node
+abbrev pub startSlot : List ℕ → List ℕ → Bool → Slot
+startSlot node hints goal = record { node = node; hints = hints; cost = 0; steps = 0; parent = 0; action = 0; taken = false; goal = goal }
+
+module _ (job t u node hints : List ℕ) (goal : Bool) (clean : Clean (constraintCount job) node) (carried : Carries (hintCount job) (startHints (jobOf job)) hints)
+    (marked : goal ≡ isGoal (jobOf job) (nodeIs (constraintCount job) node)) where
+  start-sound : Sound job (startSlot node hints goal)
+  start-sound = record { clean = clean; cleanHints = carried .clean; marked = marked; summed = omega arith }
+
+  start-record : heldIs job (startSlot node hints goal) ≡ record { node = nodeIs (constraintCount job) node; key = zeroKey; hints = startHints (jobOf job); parent = 0; action = 0; taken = false }
+  unfolding heldIs zeroKey
+  start-record = λ z. record { node = nodeIs (constraintCount job) node; key = zeroKey; hints = carried .carries z; parent = 0; action = 0; taken = false }
+
+  -- Stored as slot 0, it is the start table.
+  pub begun : slots u ≡ set (slots t) 0 (startSlot node hints goal) → 160 ≤ length t → Begun job node u
+  unfolding startTable heldIn
+  begun e l = record {
+    begins = append-held job t u 0 (startSlot node hints goal) e l ∙ ap (λ (r : Held (sys job)). r ∷ []) start-record;
+    sound = append-sound job t u 0 (startSlot node hints goal) e l start-sound tt;
+  }
+
+-- The search begins with a table between two turns.
+pub begun-idle : {job : List ℕ} {places : ℕ} {u node : List ℕ} → jobVerdict job ≡ Fine → startNode (jobOf job) ≡ some (nodeIs (constraintCount job) node) → Begun job node u
+    → places * 160 ≤ length u → places ≤ 65536 → 0 < places → Idle job places 1 u
+begun-idle {job} {places} {u} {node} fine starts b room most l =
+    let m0 : Node = nodeIs (constraintCount job) node in (
+      m0,
+      record { accepted = fine; starts = starts; room = room; most = most; used = l; sound = b .sound },
+      subst (Ready (sys job) places m0) (sym (b .begins)) (start-ready (sys job) places (sys-laws job) m0 l),
+    )
+
+-- ---- the whole search, by what the start is
+
+module _ (S : System) (places : ℕ) where
+  by-start : {o : Option (S .Node)} → S .start ≡ o
+      → searchIn S places ≡ elim o as (λ x. Result) [ none ↦ answered (no-plan 12) | some m ↦ elim (ltb 0 places) [ true ↦ turns S places (suc places) (startTable S m) | false ↦ too-small ] ]
+  unfolding searchIn
+  by-start e = ap (λ (o : Option (S .Node)). elim o as (λ x. Result) [ none ↦ answered (no-plan 12) | some m ↦ elim (ltb 0 places) [ true ↦ turns S places (suc places) (startTable S m) | false ↦ too-small ] ]) e
+
+  -- It is not reached: 12;
+  pub search-none : S .start ≡ none → searchIn S places ≡ answered (no-plan 12)
+  search-none e = by-start e
+
+  -- there is no slot for it;
+  pub search-small : {m : S .Node} → S .start ≡ some m → places ≡ 0 → searchIn S places ≡ too-small
+  search-small e z = by-start e ∙ rw (le-ltb 0 places (omega arith)) refl
+
+  -- or the turns begin.
+  pub search-turns : {m : S .Node} → S .start ≡ some m → 0 < places → searchIn S places ≡ turns S places (suc places) (startTable S m)
+  search-turns e l = by-start e ∙ rw (lt-ltb 0 places l) refl
+
+-- What the turns end as, the search does.
+pub begun-ends : {job u node : List ℕ} {places slots : ℕ} (t : List ℕ) (r : Ended) → Begun job node u → startNode (jobOf job) ≡ some (nodeIs (constraintCount job) node)
+    → EndsAs t r (turns (sys job) places (suc places) (heldIn job 1 u)) → places ≡ slots → 0 < places → EndsAs t r (searchIn (sys job) slots)
+begun-ends {job} {u} {node} {places} {slots} t r b starts h e l =
+    subst (EndsAs t r) (ap (turns (sys job) places (suc places)) (b .begins) ∙ sym (search-turns (sys job) places starts l) ∙ ap (searchIn (sys job)) e) h

@@ -1,0 +1,55 @@
+-- What a search in a table comes to, turn by turn, as the table's bytes hold it.
+use mathlib.Core.Path.{_≡_}
+use mathlib.Core.Option.{none, some}
+use mathlib.Core.List.{List}
+use Prim.Native.Nat.{ℕ, suc, _*_, _≤_, _<_}
+use lib.ListN.{length}
+use Rattle.model.specs.exploration.Key.{Key}
+use Rattle.model.specs.exploration.Equations.{plan, no-plan}
+use Rattle.dijkstra.specs.Records.{leastOpen}
+use Rattle.dijkstra.specs.Search.{Result, answered, too-small, firstGoal, turns, startTable}
+use Rattle.model.specs.job.Layout.{constraintCount}
+use Rattle.nodes.specs.Meaning.{nodeIs}
+use Rattle.table.specs.Slots.{slotAt}
+use Rattle.table.specs.Lookup.{keyOf}
+use Rattle.paths.specs.Chain.{held, stepsAt, slotPath, Chained}
+use Rattle.held.specs.Held.{sys, heldIn, SoundTo}
+use Rattle.held.specs.Running.{Idle}
+use Rattle.search.specs.declared.Ended.{Ended}
+use Rattle.search.specs.declared.Ended.the-variants as ended
+use Rattle.search.specs.declared.Turn.{Turn}
+use Rattle.search.specs.declared.Turn.the-variants.{On, End}
+
+-- A table's bytes and what the code says of them are this result. A goal's path can be followed from slot to slot.
+abbrev pub EndsAs : List ℕ → Ended → Result → Type 0
+EndsAs t (ended.Goal g n) res =
+    (n * 160 ≤ length t) × Chained (held t n) × (g < n)
+    × (res ≡ answered (plan (slotAt t g .cost) (slotPath (held t n) (stepsAt (held t n) g) g)))
+EndsAs t (ended.NoPlan k) res = res ≡ answered (no-plan k)
+EndsAs t ended.Full res = res ≡ too-small
+
+-- One turn from a table t with n slots in use: it goes on with m in u, or it ends.
+abbrev pub Turned : List ℕ → ℕ → ℕ → List ℕ → List ℕ → Turn → Type 0
+Turned job places n t u (On m) =
+    Idle job places m u × ((k : ℕ) → turns (sys job) places (suc k) (heldIn job n t) ≡ turns (sys job) places k (heldIn job m u))
+Turned job places n t u (End e) = (k : ℕ) → EndsAs u e (turns (sys job) places (suc k) (heldIn job n t))
+
+-- the key of slot i
+abbrev pub keyAt : List ℕ → ℕ → Key
+keyAt t i = keyOf (slotAt t i .cost) (slotAt t i .steps)
+
+-- Slot i is the open one of the least key.
+pub record Least (job : List ℕ) (n : ℕ) (t : List ℕ) (i : ℕ) : Type 0 where
+  pub inside : i < n
+  pub least : leastOpen (sys job) (heldIn job n t) 0 ≡ some (record { slot = i; key = keyAt t i })
+
+-- No goal has its key, so it is taken.
+pub record Taking (job : List ℕ) (places n : ℕ) (t : List ℕ) (i : ℕ) : Type 0 where
+  pub idle : Idle job places n t
+  pub chosen : Least job n t i
+  pub noGoal : firstGoal (sys job) (heldIn job n t) (keyAt t i) (heldIn job n t) 0 ≡ none
+
+-- The start node, of that array, is in slot 0.
+pub record Begun (job node after : List ℕ) : Type 0 where
+  pub begins : heldIn job 1 after ≡ startTable (sys job) (nodeIs (constraintCount job) node)
+  pub sound : SoundTo job 1 after

@@ -1,0 +1,49 @@
+// The search on the bytes of a job, in a table of slots that the caller lends.
+mod goals; // goals.rt: the goals of a key, and cut nodes
+mod turns; // turns.rt: one turn of the search, and all of them
+mod start; // start.rt: the start node, and the search from it
+mod result; // result.rt: what is handed back to the caller
+
+use model::Searched;
+use model::Verdict;
+use table::slots;
+ghost use mathlib.Core.Path.{_≡_};
+ghost use Rattle.model.specs.calls.Search.{SearchGives};
+ghost use Rattle.search.specs.Given.{searchEnd, PartGiven};
+
+// What a search in a table comes to: the slot of the answer and how many slots are in use; the number of a refusal, 11 or 12; or that the
+// table is full.
+enum Ended {
+    Goal(usize, usize),
+    NoPlan(u8),
+    Full,
+}
+
+// What one turn comes to: so many slots are in use, or the search ends.
+enum Turn {
+    On(usize),
+    End(Ended),
+}
+
+// Searches for the job's plan, and writes it to the front of the plan buffer. Bytes that are no job are refused with nothing touched; on every
+// other way out each byte of the table is zero.
+pub fn search(job: &[u8], table: &mut [u8], plan: &mut [u8]) -> Searched
+    ensures { λ r. ⌜ SearchGives (now (job .entry)) (now (table .entry)) (now (plan .entry)) (searchEnd r (now (table .exit)) (now (plan .exit))) ⌝ }
+{
+    match job::decode(job) {
+        Verdict::Bad(r) => Searched::Refused(r),
+        Verdict::Fine => {
+            let r = result::answer(job, table, plan);
+            slots::clear(table);
+            r
+        }
+    }
+}
+
+// The same search. The front part of the plan buffer that holds the steps is handed back, empty on a refusal.
+pub fn planned<'a>(job: &[u8], table: &mut [u8], plan: &'a mut [u8]) -> &'a mut [u8]
+    ensures { λ r. ⌜ PartGiven (now (job .entry)) (now (table .entry)) (now (plan .entry)) (now r) (now (table .exit)) × (r .ptr ≡ plan .entry .ptr) ⌝ }
+{
+    let n = result::steps_of(search(job, table, plan));
+    &mut plan[..n]
+}
