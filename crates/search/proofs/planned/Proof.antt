@@ -3,9 +3,9 @@ use mathlib.Core.Path.{refl, sym, ap}
 use native.Mathlib.Omega.{arith}
 use lib.ListN.{take}
 use lib.Seq.{length-take-le}
+use borrow.Author.Needs.{needs}
 use Rattle.search.specs.Given.{searchEnd, partOf}
 use Rattle.search.proofs.Ways.{way, steps-fit}
-use borrow.Author.Needs.{needs}
 use Rattle.search.proofs.planned.Statement.{statement}
 use Rattle.search.proofs.planned.Tie as tie
 

@@ -1,8 +1,8 @@
 -- `search` touches nothing if the bytes are no job; else it answers, and clears the table last.
 use mathlib.Core.Path.{sym, _∙_}
 use native.Mathlib.Omega.{arith}
-use Rattle.search.proofs.GivenLaws.{bad-gives, fine-gives}
 use borrow.Author.Needs.{needs}
+use Rattle.search.proofs.GivenLaws.{bad-gives, fine-gives}
 use Rattle.search.proofs.search.Statement.{statement}
 use Rattle.search.proofs.search.Tie as tie
 

@@ -2,10 +2,10 @@
 use mathlib.Core.Path.{_≡_, sym, _∙_}
 use native.Mathlib.Omega.{arith}
 use lib.ListN.{length}
+use borrow.Author.Needs.{needs}
 use Rattle.paths.specs.Chain.{held, stepsAt, slotPath}
 use Rattle.paths.proofs.ChainLaws.{held-steps, length-path}
 use Rattle.search.proofs.GivenLaws.{too-short, written}
-use borrow.Author.Needs.{needs}
 use Rattle.search.proofs.result.hand_over.Statement.{statement}
 use Rattle.search.proofs.result.hand_over.Tie as tie
 

@@ -1,6 +1,6 @@
 -- `begin` makes the start table.
-use Rattle.search.proofs.StartLaws.{begun}
 use borrow.Author.Needs.{needs}
+use Rattle.search.proofs.StartLaws.{begun}
 use Rattle.search.proofs.start.begin.Statement.{statement}
 use Rattle.search.proofs.start.begin.Tie as tie
 

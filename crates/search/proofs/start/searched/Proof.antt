@@ -1,5 +1,9 @@
 -- `searched` ends at once if the start node is not reached or has no slot; else the turns begin.
 use mathlib.Core.Option.{some}
+use mathlib.Core.Path.{_≡_, sym, _∙_}
+use native.Mathlib.Omega.{arith}
+use borrow.Author.Tests.{not-true, not-false}
+use borrow.Author.Needs.{needs}
 use Rattle.model.specs.calls.Search.{slotsIn}
 use Rattle.model.specs.job.Layout.{constraintCount, jobOf}
 use Rattle.model.specs.search.JobSystem.{startNode}
@@ -7,10 +11,6 @@ use Rattle.nodes.specs.Meaning.{nodeIs}
 use Rattle.nodes.proofs.Arrivals.{leads-some, leads-none}
 use Rattle.held.specs.Held.{sys}
 use Rattle.search.proofs.StartLaws.{search-none, search-small, begun-idle, begun-ends}
-use mathlib.Core.Path.{_≡_, sym, _∙_}
-use native.Mathlib.Omega.{arith}
-use borrow.Author.Tests.{not-true, not-false}
-use borrow.Author.Needs.{needs}
 use Rattle.search.proofs.start.searched.Statement.{statement}
 use Rattle.search.proofs.start.searched.Tie as tie
 

@@ -1,8 +1,8 @@
 -- `take` marks the slot, which is the turn if it is cut; else its expansion is.
 use mathlib.Core.Path.{sym, _∙_}
 use native.Mathlib.Omega.{arith}
-use Rattle.search.proofs.TurnLaws.{cut-on, uncut-busy, grown-turned, full-ends}
 use borrow.Author.Needs.{needs}
+use Rattle.search.proofs.TurnLaws.{cut-on, uncut-busy, grown-turned, full-ends}
 use Rattle.search.proofs.turns.take.Statement.{statement}
 use Rattle.search.proofs.turns.take.Tie as tie
 

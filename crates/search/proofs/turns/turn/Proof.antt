@@ -1,8 +1,8 @@
 -- `turn` ends where no slot is open.
+use borrow.Author.Needs.{needs}
 use Rattle.table.proofs.LookupLaws.{least-inside}
 use Rattle.held.proofs.Lookup.{least-at, least-nothing}
 use Rattle.search.proofs.TurnLaws.{nothing-ends}
-use borrow.Author.Needs.{needs}
 use Rattle.search.proofs.turns.turn.Statement.{statement}
 use Rattle.search.proofs.turns.turn.Tie as tie
 

@@ -1,6 +1,6 @@
 -- `turn_at` ends at a goal of the least key, and takes the slot if there is none.
-use Rattle.search.proofs.TurnLaws.{idle-room, idle-chained, none-takes, goal-ends}
 use borrow.Author.Needs.{needs}
+use Rattle.search.proofs.TurnLaws.{idle-room, idle-chained, none-takes, goal-ends}
 use Rattle.search.proofs.turns.turn_at.Statement.{statement}
 use Rattle.search.proofs.turns.turn_at.Tie as tie
 
