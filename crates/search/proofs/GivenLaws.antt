@@ -63,12 +63,13 @@ module _ (job table buffer : List ℕ) where
   bad-gives e = inl (rw (e, ruled))
 
   module _ (fine : jobVerdict job ≡ Fine) where
+    -- Of an accepted job it is the answer that decides.
     ruled-is : ruled job table buffer ≡ calls.answered (solveJob (jobOf job)) table buffer
     unfolding ruled
     ruled-is = rw (fine, ruled)
 
     -- What the search in the table comes to is what a search gives.
-    pub ends-right : SearchGives job table buffer (endOf (searchIn (sys job) (slotsIn table)) table buffer)
+    ends-right : SearchGives job table buffer (endOf (searchIn (sys job) (slotsIn table)) table buffer)
     unfolding solveJob reachedCount
     ends-right = go (search-right (sys job) (sys-laws job) (sys-finite job fine) (slotsIn table))
       where

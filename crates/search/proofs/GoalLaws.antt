@@ -111,6 +111,7 @@ module _ (job : List ℕ) (c s : ℕ) (ss : List Slot) where
   abbrev From : ℕ → Found
   From i = firstDue job c s ss (drop i ss) i
 
+  -- Behind the last there is none, and slot i is chosen against those behind it.
   pub due-none : (i : ℕ) → length ss ≤ i → Nothing ≡ From i
   unfolding firstDue
   due-none i g = rw (drop-of-length-le ss g)
@@ -123,6 +124,7 @@ module _ (job : List ℕ) (c s : ℕ) (ss : List Slot) where
   pub due-turn : (i k : ℕ) (x : Slot) (f r : Found) → f ≡ From k → r ≡ chosen ss (due job c s x) i f → k ≡ suc i → getD ss i noSlot ≡ x → i < length ss → r ≡ From i
   due-turn i k x f r e q d g h = q ∙ rw (e, d, ← g) (sym (due-more i h))
 
+  -- What is chosen is slot i or was found behind it.
   chosen-from : (i : ℕ) (x : Slot) → getD ss i noSlot ≡ x → (f : Found) → Behind ss (suc i) c s f → i < length ss → Behind ss i c s (chosen ss (due job c s x) i f)
   unfolding chosen
   chosen-from i x g f h l = go (due job c s x) refl f h
@@ -154,16 +156,20 @@ module _ (job : List ℕ) (ss : List Slot) (i : ℕ) where
   CutIn xs = someCutIn (sys job) (map (heldIs job) xs)
 
   module _ (x : Slot) (d : Bool) (rest : CutIn ss ≡ CutIn (drop i ss)) (at : getD ss i noSlot ≡ x) (cut : d ≡ sys job .cut (heldIs job x .hints)) (inside : i < length ss) where
+    -- Slot i is the next one looked at:
     front : CutIn ss ≡ d || CutIn (drop (suc i) ss)
     unfolding someCutIn
     front = rest ∙ rw (drop-cons ss i noSlot inside, at) (ap (λ (b : Bool). b || CutIn (drop (suc i) ss)) (sym cut))
 
+    -- it is cut,
     pub cut-here : d ≡ true → true ≡ CutIn ss
     cut-here e = sym (front ∙ rw e refl)
 
+    -- or those behind it decide;
     pub cut-on : d ≡ false → CutIn ss ≡ CutIn (drop (i + 1) ss)
     cut-on e = front ∙ rw (e, add-one i) refl
 
+  -- and behind the last there is none.
   pub cut-end : CutIn ss ≡ CutIn (drop i ss) → length ss ≤ i → false ≡ CutIn ss
   unfolding someCutIn
   cut-end r g = sym (r ∙ rw (drop-of-length-le ss g))
