@@ -36,9 +36,11 @@ oneMore p false o = o
 oneMore p true none = some p
 oneMore p true (some q) = some (firstOf p q)
 
+-- whether a record is an uncut goal of key k
 abbrev AtGoal : (S : System) → Key → Held S → Bool
 AtGoal S k r = sameKey (r .key) k && not (S .cut (r .hints)) && S .goal (r .node)
 
+-- A record in front is one more goal, if it is one.
 goals-cons : (S : System) (t : Table S) (k : Key) (r : Held S) (rs : Table S) (i : ℕ)
     → firstGoal S t k (r ∷ rs) i ≡ oneMore (pathOf S t (k .steps) i) (AtGoal S k r) (firstGoal S t k rs (suc i))
 unfolding firstGoal
@@ -62,6 +64,7 @@ abbrev pub pathFound : List Slot → ℕ → Found → Option (List ℕ)
 pathFound ss s Nothing = none
 pathFound ss s (At g) = some (slotPath ss s g)
 
+-- The first of two paths is that of the slot which the order picks.
 first-path : (ss : List Slot) (s i b : ℕ) (o : Bool) → earlier (slotPath ss s b) (slotPath ss s i) ≡ o → some (firstOf (slotPath ss s i) (slotPath ss s b)) ≡ pathFound ss s (choose o (At b) (At i))
 unfolding firstOf
 first-path ss s i b true e = rw (e, firstOf)
@@ -96,7 +99,7 @@ module _ (job : List ℕ) (n : ℕ) (t : List ℕ) (room : n * 160 ≤ length t)
   size : length ss ≡ n
   size = length-first t n room
 
-  -- Slot i, due or not, comes before those behind it.
+  -- Slot i, due or not, is one more in front of those behind it.
   goals-on : (i : ℕ) → i < n → Behind ss (suc i) c s (From (suc i)) → Goals (suc i) ≡ pathFound ss s (From (suc i)) → Goals i ≡ pathFound ss s (From i)
   goals-on i l h ih =
       let x = slotAt t i in
@@ -111,6 +114,7 @@ module _ (job : List ℕ) (n : ℕ) (t : List ℕ) (room : n * 160 ≤ length t)
       front ∙ ap₂ (oneMore (pathOf (sys job) T s i)) same ih ∙ own-path (pathOf (sys job) T s i) (slotPath ss s i) (due job c s x) (pathFound ss s (From (suc i))) own
       ∙ chosen-path ss c s i (due job c s x) (From (suc i)) h ∙ last
 
+  -- So it goes on from the last slot to the first.
   goals-from : (d i : ℕ) → d + i ≡ n → Goals i ≡ pathFound ss s (From i)
   unfolding firstGoal
   goals-from zero i e = let l : length ss ≤ i = omega (arith, size) in rw (← due-none job c s ss i l, drop-of-length-le ss l)

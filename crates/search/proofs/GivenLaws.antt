@@ -15,7 +15,7 @@ use Rattle.model.specs.declared.Searched.the-variants.{Planned, Refused}
 use Rattle.model.specs.Verdict.{refusal}
 use Rattle.model.specs.calls.Search as calls
 use Rattle.model.specs.calls.Search.{slotsIn, cleared, writtenOver, ruled, tooSmall, SearchGives}
-use Rattle.model.specs.exploration.Equations.{no-plan}
+use Rattle.model.specs.exploration.Equations.{plan, no-plan}
 use Rattle.model.specs.exploration.Explore.{reached, solve}
 use Rattle.model.specs.job.Layout.{jobOf}
 use Rattle.model.specs.job.Decoding.{jobVerdict}
@@ -47,6 +47,10 @@ module _ (table buffer : List ℕ) {res : Result} where
   unfolding calls.answered
   refused-end e = rw e
 
+  -- A path handed over.
+  pub handed-end : {c : ℕ} {p : List ℕ} (r : Searched) (after : List ℕ) → HandsOver c p buffer r after → res ≡ answered (plan c p) → searchEnd r (cleared table) after ≡ endOf res table buffer
+  handed-end r after h e = h table ∙ ap (λ (x : Result). endOf x table buffer) (sym e)
+
   -- The table is too small: 10.
   pub full-end : res ≡ too-small → searchEnd (Refused (refusal 10 0)) (cleared table) buffer ≡ endOf res table buffer
   unfolding tooSmall
@@ -59,12 +63,13 @@ module _ (job table buffer : List ℕ) where
   bad-gives e = inl (rw (e, ruled))
 
   module _ (fine : jobVerdict job ≡ Fine) where
+    -- Of an accepted job it is the answer that decides.
     ruled-is : ruled job table buffer ≡ calls.answered (solveJob (jobOf job)) table buffer
     unfolding ruled
     ruled-is = rw (fine, ruled)
 
     -- What the search in the table comes to is what a search gives.
-    pub ends-right : SearchGives job table buffer (endOf (searchIn (sys job) (slotsIn table)) table buffer)
+    ends-right : SearchGives job table buffer (endOf (searchIn (sys job) (slotsIn table)) table buffer)
     unfolding solveJob reachedCount
     ends-right = go (search-right (sys job) (sys-laws job) (sys-finite job fine) (slotsIn table))
       where

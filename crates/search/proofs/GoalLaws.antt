@@ -2,13 +2,13 @@
 use mathlib.Core.Path.{_≡_, refl, sym, ap, _∙_}
 use mathlib.Core.Bool.{Bool, true, false, not, _&&_, _||_}
 use mathlib.Core.List.{List, map}
-use Prim.Native.Nat.{ℕ, zero, suc, _+_, _≤_, _<_}
+use Prim.Native.Nat.{ℕ, zero, suc, _+_, _*_, _≤_, _<_}
 use native.Mathlib.Numerals.{add-one}
 use native.Mathlib.Omega.{arith}
 use lib.Dec.{eqb}
 use lib.ListN.{length, getD, drop, drop-of-length-le}
 use lib.Seq.{drop-cons}
-use borrow.Author.Tests.{eq-eqb, ne-eqb}
+use borrow.Author.Tests.{eq-eqb, ne-eqb, not-true, not-false}
 use Rattle.model.specs.logic.Formula.{choose}
 use Rattle.model.specs.exploration.Key.{Key, sameKey}
 use Rattle.model.specs.job.Layout.{hintCount}
@@ -19,10 +19,12 @@ use Rattle.dijkstra.specs.Search.{someCutIn}
 use Rattle.table.specs.declared.Slot.{Slot}
 use Rattle.table.specs.declared.Found.{Found}
 use Rattle.table.specs.declared.Found.the-variants.{At, Nothing}
-use Rattle.table.specs.Slots.{noSlot}
+use Rattle.table.specs.Slots.{slotAt, noSlot}
 use Rattle.table.specs.Lookup.{keyOf}
+use Rattle.table.proofs.LookupLaws.{length-first}
 use Rattle.nodes.specs.Meaning.{hintsIs}
-use Rattle.paths.specs.Chain.{stepsAt, order, Level}
+use Rattle.paths.specs.Chain.{held, stepsAt, order, Level}
+use Rattle.paths.proofs.ChainLaws.{held-steps}
 use Rattle.held.specs.Held.{sys, heldIs}
 use Rattle.search.specs.GoalSlots.{due, chosen, firstDue, Behind}
 
@@ -43,16 +45,19 @@ module _ (job : List ℕ) (c s : ℕ) (x : Slot) where
       go true = rw (ne-eqb (x .steps) s (λ q. n (e ∙ q)))
       go false = refl
 
-  module _ (v w : ℕ) (ev : v ≡ x .cost) (ew : w ≡ x .steps) (ec : v ≡ c) (es : w ≡ s) (d : Bool) (cut : d ≡ someDead (hintsIs (hintCount job) (x .hints))) where
-    -- or is cut;
+  -- or, as it was loaded, is cut;
+  module _ (v w : ℕ) (ev : v ≡ x .cost) (ew : w ≡ x .steps) (ec : v ≡ c) (es : w ≡ s) (z : Slot) (loaded : z ≡ x) (d : Bool) (cut : d ≡ someDead (hintsIs (hintCount job) (z .hints))) where
+    is-cut : someDead (hintsIs (hintCount job) (x .hints)) ≡ d
+    is-cut = sym (cut ∙ ap (λ (y : Slot). someDead (hintsIs (hintCount job) (y .hints))) loaded)
+
     pub not-due : d ≡ true → false ≡ due job c s x
     unfolding due sameKey
-    not-due e = rw (eq-eqb (x .cost) c (sym ev ∙ ec), sameKey, eq-eqb (x .steps) s (sym ew ∙ es), sym cut ∙ e)
+    not-due e = rw (eq-eqb (x .cost) c (sym ev ∙ ec), sameKey, eq-eqb (x .steps) s (sym ew ∙ es), is-cut ∙ e)
 
     -- or else it is, if it is a goal.
-    pub is-due : d ≡ false → x .goal ≡ due job c s x
+    pub is-due : d ≡ false → z .goal ≡ due job c s x
     unfolding due sameKey
-    is-due e = rw (eq-eqb (x .cost) c (sym ev ∙ ec), sameKey, eq-eqb (x .steps) s (sym ew ∙ es), sym cut ∙ e)
+    is-due e = ap (λ (y : Slot). y .goal) loaded ∙ rw (eq-eqb (x .cost) c (sym ev ∙ ec), sameKey, eq-eqb (x .steps) s (sym ew ∙ es), is-cut ∙ e) refl
 
   -- A slot that is due has that cost and so many steps.
   pub due-key : due job c s x ≡ true → (x .cost ≡ c) × (x .steps ≡ s)
@@ -61,33 +66,43 @@ module _ (job : List ℕ) (c s : ℕ) (x : Slot) where
       let e : keyOf (x .cost) (x .steps) ≡ keyOf c s = same-key _ _ (and-both _ _ .0 (and-both _ _ .0 h .0) .0) in
       (ap (λ (k : Key). k .cost) e, ap (λ (k : Key). k .steps) e)
 
--- ---- the choice between slot i and what was found behind it
+-- ---- the choice between slot i and what was found behind it; the test is y
 
-module _ (ss : List Slot) (d : Bool) (i : ℕ) (f : Found) where
-  pub chosen-not : d ≡ false → f ≡ chosen ss d i f
+module _ (ss : List Slot) (d : Bool) (i : ℕ) (f : Found) (y : Bool) (tested : y ≡ d) where
+  -- Slot i is not due,
+  pub chosen-not : not y ≡ true → f ≡ chosen ss d i f
   unfolding chosen
-  chosen-not e = go f
+  chosen-not h = go f
     where
+      e : d ≡ false
+      e = sym tested ∙ not-true y h
+
       go : (g : Found) → g ≡ chosen ss d i g
       go Nothing = rw e
       go (At b) = rw e
 
-  pub chosen-only : d ≡ true → f ≡ Nothing → At i ≡ chosen ss d i f
+  -- or it is: alone,
+  pub chosen-only : not y ≡ false → f ≡ Nothing → At i ≡ chosen ss d i f
   unfolding chosen
-  chosen-only e q = rw (q, e)
+  chosen-only h q = rw (q, sym tested ∙ not-false y h)
 
-  pub chosen-behind : (b : ℕ) (o : Bool) → o ≡ order ss b i → d ≡ true → f ≡ At b → o ≡ true → At b ≡ chosen ss d i f
+  -- behind the other by their paths' order o,
+  pub chosen-behind : (b : ℕ) (o : Bool) → o ≡ order ss b i → not y ≡ false → f ≡ At b → o ≡ true → At b ≡ chosen ss d i f
   unfolding chosen
-  chosen-behind b o p e q h = rw (q, e, ← p, h)
+  chosen-behind b o p h q e = rw (q, sym tested ∙ not-false y h, ← p, e)
 
-  pub chosen-here : (b : ℕ) (o : Bool) → o ≡ order ss b i → d ≡ true → f ≡ At b → o ≡ false → At i ≡ chosen ss d i f
+  -- or before it.
+  pub chosen-here : (b : ℕ) (o : Bool) → o ≡ order ss b i → not y ≡ false → f ≡ At b → o ≡ false → At i ≡ chosen ss d i f
   unfolding chosen
-  chosen-here b o p e q h = rw (q, e, ← p, h)
+  chosen-here b o p h q e = rw (q, sym tested ∙ not-false y h, ← p, e)
 
--- What was found behind slot i, which has as many steps, can be compared with it.
-pub behind-level : (ss : List Slot) (n i b c s : ℕ) (f : Found) → f ≡ At b → Behind ss (i + 1) c s f → length ss ≡ n → i < n → stepsAt ss i ≡ s → Level ss n b i
-behind-level ss n i b c s f e h l g q =
-    let k : Behind ss (i + 1) c s (At b) = rw e at h in
+-- What was found behind slot i, which is due, can be compared with it.
+pub comparable : (job t : List ℕ) (n i b c s : ℕ) (f : Found) (y : Bool) → y ≡ due job c s (slotAt t i) → not y ≡ false → f ≡ At b → Behind (held t n) (i + 1) c s f
+    → n * 160 ≤ length t → i < n → Level (held t n) n b i
+comparable job t n i b c s f y tested h e behind room g =
+    let k : Behind (held t n) (i + 1) c s (At b) = rw e at behind in
+    let size = length-first t n room in
+    let steps : stepsAt (held t n) i ≡ s = sym (held-steps t n i g) ∙ due-key job c s (slotAt t i) (sym tested ∙ not-false y h) .1 in
     record { first = omega arith; second = g; differ = λ z. omega arith; level = omega arith }
 
 -- ---- the slots from i on
@@ -96,6 +111,7 @@ module _ (job : List ℕ) (c s : ℕ) (ss : List Slot) where
   abbrev From : ℕ → Found
   From i = firstDue job c s ss (drop i ss) i
 
+  -- Behind the last there is none, and slot i is chosen against those behind it.
   pub due-none : (i : ℕ) → length ss ≤ i → Nothing ≡ From i
   unfolding firstDue
   due-none i g = rw (drop-of-length-le ss g)
@@ -108,6 +124,7 @@ module _ (job : List ℕ) (c s : ℕ) (ss : List Slot) where
   pub due-turn : (i k : ℕ) (x : Slot) (f r : Found) → f ≡ From k → r ≡ chosen ss (due job c s x) i f → k ≡ suc i → getD ss i noSlot ≡ x → i < length ss → r ≡ From i
   due-turn i k x f r e q d g h = q ∙ rw (e, d, ← g) (sym (due-more i h))
 
+  -- What is chosen is slot i or was found behind it.
   chosen-from : (i : ℕ) (x : Slot) → getD ss i noSlot ≡ x → (f : Found) → Behind ss (suc i) c s f → i < length ss → Behind ss i c s (chosen ss (due job c s x) i f)
   unfolding chosen
   chosen-from i x g f h l = go (due job c s x) refl f h
@@ -139,16 +156,20 @@ module _ (job : List ℕ) (ss : List Slot) (i : ℕ) where
   CutIn xs = someCutIn (sys job) (map (heldIs job) xs)
 
   module _ (x : Slot) (d : Bool) (rest : CutIn ss ≡ CutIn (drop i ss)) (at : getD ss i noSlot ≡ x) (cut : d ≡ sys job .cut (heldIs job x .hints)) (inside : i < length ss) where
+    -- Slot i is the next one looked at:
     front : CutIn ss ≡ d || CutIn (drop (suc i) ss)
     unfolding someCutIn
     front = rest ∙ rw (drop-cons ss i noSlot inside, at) (ap (λ (b : Bool). b || CutIn (drop (suc i) ss)) (sym cut))
 
+    -- it is cut,
     pub cut-here : d ≡ true → true ≡ CutIn ss
     cut-here e = sym (front ∙ rw e refl)
 
+    -- or those behind it decide;
     pub cut-on : d ≡ false → CutIn ss ≡ CutIn (drop (i + 1) ss)
     cut-on e = front ∙ rw (e, add-one i) refl
 
+  -- and behind the last there is none.
   pub cut-end : CutIn ss ≡ CutIn (drop i ss) → length ss ≤ i → false ≡ CutIn ss
   unfolding someCutIn
   cut-end r g = sym (r ∙ rw (drop-of-length-le ss g))

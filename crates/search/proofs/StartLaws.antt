@@ -37,6 +37,7 @@ startSlot node hints goal = record { node = node; hints = hints; cost = 0; steps
 
 module _ (job t u node hints : List ℕ) (goal : Bool) (clean : Clean (constraintCount job) node) (carried : Carries (hintCount job) (startHints (jobOf job)) hints)
     (marked : goal ≡ isGoal (jobOf job) (nodeIs (constraintCount job) node)) where
+  -- It is sound, and stands for the first record of the start table.
   start-sound : Sound job (startSlot node hints goal)
   start-sound = record { clean = clean; cleanHints = carried .clean; marked = marked; summed = omega arith }
 

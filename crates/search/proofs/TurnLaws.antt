@@ -52,7 +52,7 @@ module _ (S : System) (t : Table S) (b : Bool) (e : b ≡ someCutIn S t) where
 
 module _ (S : System) (places : ℕ) (t : Table S) (k : ℕ) where
   -- A turn ends where nothing is open,
-  pub turn-none : leastOpen S t 0 ≡ none → turns S places (suc k) t ≡ answered (exhausted S t)
+  turn-none : leastOpen S t 0 ≡ none → turns S places (suc k) t ≡ answered (exhausted S t)
   unfolding turns
   turn-none e = rw (e, turns)
 

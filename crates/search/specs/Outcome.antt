@@ -6,12 +6,12 @@ use Prim.Native.Nat.{ℕ, suc, _*_, _≤_, _<_}
 use lib.ListN.{length}
 use Rattle.model.specs.exploration.Key.{Key}
 use Rattle.model.specs.exploration.Equations.{plan, no-plan}
+use Rattle.model.specs.job.Layout.{constraintCount}
 use Rattle.dijkstra.specs.Records.{leastOpen}
 use Rattle.dijkstra.specs.Search.{Result, answered, too-small, firstGoal, turns, startTable}
-use Rattle.model.specs.job.Layout.{constraintCount}
-use Rattle.nodes.specs.Meaning.{nodeIs}
 use Rattle.table.specs.Slots.{slotAt}
 use Rattle.table.specs.Lookup.{keyOf}
+use Rattle.nodes.specs.Meaning.{nodeIs}
 use Rattle.paths.specs.Chain.{held, stepsAt, slotPath, Chained}
 use Rattle.held.specs.Held.{sys, heldIn, SoundTo}
 use Rattle.held.specs.Running.{Idle}

@@ -2,8 +2,8 @@
 use mathlib.Core.Path.{_≡_}
 use Prim.Native.Nat.{_≤_, _+_, _-_}
 use native.Mathlib.Omega.{arith}
-use borrow.Author.Needs.{needs}
 use lib.ListN.{drop}
+use borrow.Author.Needs.{needs}
 use Rattle.table.proofs.LookupLaws.{length-first, first-at}
 use Rattle.paths.specs.Chain.{held}
 use Rattle.search.specs.GoalSlots.{firstDue}

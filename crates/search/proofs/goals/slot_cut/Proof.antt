@@ -1,11 +1,11 @@
 -- `slot_cut` reads the hints of the slot, which are those of its record.
 use mathlib.Core.Path.{ap, _∙_}
+use borrow.Author.Needs.{needs}
 use Rattle.model.specs.job.Layout.{hintCount}
 use Rattle.model.specs.search.Node.{someDead}
 use Rattle.table.specs.declared.Slot.{Slot}
 use Rattle.nodes.specs.Meaning.{hintsIs}
 use Rattle.held.specs.Held.{heldIs}
-use borrow.Author.Needs.{needs}
 use Rattle.search.proofs.goals.slot_cut.Statement.{statement}
 use Rattle.search.proofs.goals.slot_cut.Tie as tie
 

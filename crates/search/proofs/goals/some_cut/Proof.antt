@@ -3,8 +3,8 @@ use mathlib.Core.Path.{_≡_, refl}
 use mathlib.Core.List.{map}
 use Prim.Native.Nat.{_≤_, _-_}
 use native.Mathlib.Omega.{arith}
-use borrow.Author.Needs.{needs}
 use lib.ListN.{drop}
+use borrow.Author.Needs.{needs}
 use Rattle.dijkstra.specs.Search.{someCutIn}
 use Rattle.table.proofs.LookupLaws.{length-first, first-at}
 use Rattle.paths.specs.Chain.{held}

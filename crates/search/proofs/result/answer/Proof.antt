@@ -1,13 +1,11 @@
 -- `answer` hands back what the search in the table came to.
-use mathlib.Core.Path.{sym, ap, _∙_}
+use borrow.Author.Needs.{needs}
 use Rattle.model.specs.calls.Search.{slotsIn}
-use Rattle.dijkstra.specs.Search.{Result, searchIn}
+use Rattle.dijkstra.specs.Search.{searchIn}
 use Rattle.held.specs.Held.{sys}
 use Rattle.search.specs.declared.Ended.the-variants.{Goal}
 use Rattle.search.specs.Outcome.{EndsAs}
-use Rattle.search.specs.Given.{endOf}
-use Rattle.search.proofs.GivenLaws.{refused-end, full-end}
-use borrow.Author.Needs.{needs}
+use Rattle.search.proofs.GivenLaws.{refused-end, handed-end, full-end}
 use Rattle.search.proofs.result.answer.Statement.{statement}
 use Rattle.search.proofs.result.answer.Tie as tie
 
@@ -20,18 +18,21 @@ hand-over-requires : tie.Need-hand-over-requires
 hand-over-requires c κs = let h = found (c .before .before .before) in (h .0, h .1, h .2)
 
 returns : tie.Need-returns
-returns c = let x = c .before .before in
+returns c =
+    let x = c .before .before in
     let g = x .before .before .before .before in
     let s = g .before .before .before .before .before .before .before .before .before .args in
-    x .hand-over .ensures (s .table .now) ∙ sym (ap (λ (r : Result). endOf r (s .table .now) (s .plan .now)) (found g .3))
+    handed-end (s .table .now) (s .plan .now) (x .hand-over .result) (x .hand-over .last .1 .1 .1 .0) (x .hand-over .ensures) (found g .3)
 
 returns-2 : tie.Need-returns-2
-returns-2 c = let x = c .before .before .before .before .before in
+returns-2 c =
+    let x = c .before .before .before .before .before in
     let s = x .before .before .before .before .before .args in
     refused-end (s .table .now) (s .plan .now) (rw (c .before .number .given .1) at (x .searched .ensures))
 
 returns-3 : tie.Need-returns-3
-returns-3 c = let x = c .before .before .before .before in
+returns-3 c =
+    let x = c .before .before .before .before in
     let s = x .before .before .before .before .before .args in
     full-end (s .table .now) (s .plan .now) (rw (c .enum-told .given .1) at (x .searched .ensures))
 

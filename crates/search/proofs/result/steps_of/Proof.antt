@@ -1,6 +1,6 @@
 -- `steps_of` goes by the result.
-use Rattle.search.specs.Given.{stepsIn}
 use borrow.Author.Needs.{needs}
+use Rattle.search.specs.Given.{stepsIn}
 use Rattle.search.proofs.result.steps_of.Statement.{statement}
 use Rattle.search.proofs.result.steps_of.Tie as tie
 

@@ -1,5 +1,9 @@
 -- `searched` ends at once if the start node is not reached or has no slot; else the turns begin.
 use mathlib.Core.Option.{some}
+use mathlib.Core.Path.{_≡_, sym, _∙_}
+use native.Mathlib.Omega.{arith}
+use borrow.Author.Tests.{not-true, not-false}
+use borrow.Author.Needs.{needs}
 use Rattle.model.specs.calls.Search.{slotsIn}
 use Rattle.model.specs.job.Layout.{constraintCount, jobOf}
 use Rattle.model.specs.search.JobSystem.{startNode}
@@ -7,10 +11,6 @@ use Rattle.nodes.specs.Meaning.{nodeIs}
 use Rattle.nodes.proofs.Arrivals.{leads-some, leads-none}
 use Rattle.held.specs.Held.{sys}
 use Rattle.search.proofs.StartLaws.{search-none, search-small, begun-idle, begun-ends}
-use mathlib.Core.Path.{_≡_, sym, _∙_}
-use native.Mathlib.Omega.{arith}
-use borrow.Author.Tests.{not-true, not-false}
-use borrow.Author.Needs.{needs}
 use Rattle.search.proofs.start.searched.Statement.{statement}
 use Rattle.search.proofs.start.searched.Tie as tie
 
@@ -19,22 +19,26 @@ starts : (c : tie.Else1) → startNode (jobOf (c .before .before .before .before
 starts c = leads-some (c .before .before .start .ensures) (not-false _ (c .if1 .left))
 
 returns : tie.Need-returns
-returns c = let s = c .before .before .before .before .before .args in
+returns c =
+    let s = c .before .before .before .before .before .args in
     search-none (sys (s .job .now)) (slotsIn (s .t .now)) (leads-none (c .before .before .start .ensures) (not-true _ (c .if1 .taken)))
 
 returns-2 : tie.Need-returns-2
-returns-2 c = let x = c .before .before .before in
+returns-2 c =
+    let x = c .before .before .before in
     let s = x .before .before .before .before .before .args in
     search-small (sys (s .job .now)) (slotsIn (s .t .now)) (starts x) (sym (c .before .capacity .ensures .0) ∙ c .if2 .taken)
 
 run-requires : tie.Need-run-requires
-run-requires c κs = let y = c .before .before .before in
+run-requires c κs =
+    let y = c .before .before .before in
     let k = y .before .before .before .before in
     let x = k .before .before in
     begun-idle (x .before .before .before .before .before .pre) (starts x) (y .begin .ensures) (omega (arith, k .capacity .ensures .1)) (k .capacity .ensures .2) (omega arith)
 
 returns-3 : tie.Need-returns-3
-returns-3 c = let r = c .before .before in
+returns-3 c =
+    let r = c .before .before in
     let y = r .before .before .before .before in
     let k = y .before .before .before .before in
     let x = k .before .before in

@@ -1,7 +1,7 @@
 -- `refusal` goes by whether some node was cut.
+use borrow.Author.Needs.{needs}
 use Rattle.held.specs.Held.{sys, heldIn}
 use Rattle.search.proofs.TurnLaws.{exhausted-cut, exhausted-uncut}
-use borrow.Author.Needs.{needs}
 use Rattle.search.proofs.turns.refusal.Statement.{statement}
 use Rattle.search.proofs.turns.refusal.Tie as tie
 

@@ -3,8 +3,8 @@ use mathlib.Core.Path.{_≡_, refl, ap}
 use Prim.Native.Nat.{ℕ, suc, _-_}
 use native.Mathlib.Numerals.{add-one}
 use native.Mathlib.Omega.{arith}
-use borrow.Author.Needs.{needs}
 use lib.ListN.{length}
+use borrow.Author.Needs.{needs}
 use Rattle.dijkstra.specs.Search.{turns}
 use Rattle.held.specs.Held.{sys, heldIn}
 use Rattle.held.specs.Running.{Idle}

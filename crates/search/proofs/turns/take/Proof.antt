@@ -1,26 +1,30 @@
 -- `take` marks the slot, which is the turn if it is cut; else its expansion is.
 use mathlib.Core.Path.{sym, _∙_}
 use native.Mathlib.Omega.{arith}
-use Rattle.search.proofs.TurnLaws.{cut-on, uncut-busy, grown-turned, full-ends}
 use borrow.Author.Needs.{needs}
+use Rattle.search.proofs.TurnLaws.{cut-on, uncut-busy, grown-turned, full-ends}
 use Rattle.search.proofs.turns.take.Statement.{statement}
 use Rattle.search.proofs.turns.take.Tie as tie
 
 returns : tie.Need-returns
-returns c = let m = c .before .before .before in
+returns c =
+    let m = c .before .before .before in
     cut-on (m .before .before .before .before .before .before .pre) (m .mark .last .0) (m .mark .ensures) (omega arith) (sym (m .before .before .slot-cut .ensures) ∙ c .if1 .taken)
 
 expand-requires : tie.Need-expand-requires
-expand-requires c κs = let m = c .before .before .before .before in
+expand-requires c κs =
+    let m = c .before .before .before .before in
     uncut-busy (m .before .before .before .before .before .before .pre) (m .mark .last .0) (m .mark .ensures) (omega arith) (sym (m .before .before .slot-cut .ensures) ∙ c .before .if1 .left)
 
 returns-2 : tie.Need-returns-2
-returns-2 c = let x = c .before .before .before .before .before in
+returns-2 c =
+    let x = c .before .before .before .before .before in
     let m = x .before .before .before .before .before in
     grown-turned (m .before .before .before .before .before .before .pre) (m .mark .last .0) (m .mark .ensures) (omega arith) (sym (m .before .before .slot-cut .ensures) ∙ x .before .before .if1 .left) (x .expand .ensures) _ (c .before .m .given .1) (omega arith)
 
 returns-3 : tie.Need-returns-3
-returns-3 c = let x = c .before .before .before .before in
+returns-3 c =
+    let x = c .before .before .before .before in
     let m = x .before .before .before .before .before in
     full-ends (m .before .before .before .before .before .before .pre) (m .mark .last .0) (m .mark .ensures) (omega arith) (sym (m .before .before .slot-cut .ensures) ∙ x .before .before .if1 .left) (x .expand .ensures) (c .enum-told .given .1)
 

@@ -1,6 +1,6 @@
 -- `turn_at` ends at a goal of the least key, and takes the slot if there is none.
-use Rattle.search.proofs.TurnLaws.{idle-room, idle-chained, none-takes, goal-ends}
 use borrow.Author.Needs.{needs}
+use Rattle.search.proofs.TurnLaws.{idle-room, idle-chained, none-takes, goal-ends}
 use Rattle.search.proofs.turns.turn_at.Statement.{statement}
 use Rattle.search.proofs.turns.turn_at.Tie as tie
 
@@ -8,12 +8,14 @@ first-goal-requires : tie.Need-first-goal-requires
 first-goal-requires c κs = let p = c .before .before .before .before .before .before .before .pre in (p .0 .1 .accepted, idle-room (p .0), idle-chained (p .0))
 
 take-requires : tie.Need-take-requires
-take-requires c κs = let x = c .before .before .before in
+take-requires c κs =
+    let x = c .before .before .before in
     let p = x .before .before .before .before .before .before .before .before .pre in
     none-takes (p .0) (p .1) _ _ (x .before .before .before .before .cost .ensures .0) (x .before .before .steps .ensures .0) _ (x .first-goal .ensures) (c .before .enum-told .given .1)
 
 returns : tie.Need-returns
-returns c = let x = c .before .before .before in
+returns c =
+    let x = c .before .before .before in
     let p = x .before .before .before .before .before .before .before .before .pre in
     goal-ends (p .0) (p .1) _ _ (x .before .before .before .before .cost .ensures .0) (x .before .before .steps .ensures .0) _ (x .first-goal .ensures) _ (c .before .g .given .1)
 
