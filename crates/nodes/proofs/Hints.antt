@@ -1,12 +1,13 @@
 -- Laws of the arrays that hold the hints' residuals.
 use mathlib.Core.Path.{_≡_, sym, ap, ap₂, _∙_}
+use mathlib.Core.Bool.{Bool}
 use mathlib.Core.Option.{some}
 use mathlib.Core.List.{List}
 use Prim.Native.Nat.{ℕ, _≤_}
 use native.Mathlib.Omega.{arith}
 use lib.ListN.{length, take, getD, length-take}
 use Rattle.model.specs.job.Job.{Job}
-use Rattle.model.specs.search.Node.{progressedAll, meetAll}
+use Rattle.model.specs.search.Node.{progressedAll, meetAll, someDead}
 use Rattle.model.specs.search.JobSystem.{carryHints}
 use Rattle.progression.specs.Padded.{padded}
 use Rattle.progression.proofs.Padding.{length-padded, take-padded, take-meetAll, meetAll-padded}
@@ -26,6 +27,11 @@ pub carried : (j : Job) (n : ℕ) (hints : List ℕ) (m : ℕ) (node : List ℕ)
     → Carries n (carryHints j (hintsIs n hints) (nodeIs m node) i) h
 unfolding carryHints hintsIs nodeIs
 carried j n hints m node i e k l = padded-carries _ e (length-left (j .hints) n hints _ k l)
+
+-- As many residuals were looked at as there are hints.
+pub cut-told : (n count : ℕ) (hints : List ℕ) (b : Bool) → count ≡ n → b ≡ someDead (take count hints) → b ≡ someDead (hintsIs n hints)
+unfolding hintsIs
+cut-told n count hints b e d = d ∙ ap (λ (k : ℕ). someDead (take k hints)) e
 
 -- A clean array has eight entries, so a residual for each formula.
 pub clean-length : (n : ℕ) (a : List ℕ) → CleanHints n a → n ≤ 8 → length (take n a) ≡ n

@@ -1,10 +1,9 @@
 -- `is_cut` looks at as many residuals as there are hints.
-use mathlib.Core.Path.{_≡_}
+use mathlib.Core.Path.{_∙_}
 use native.Mathlib.Omega.{arith}
 use borrow.Author.Needs.{needs}
-use Rattle.model.specs.job.Layout.{hintCount}
 use Rattle.job.proofs.Accepted.{accepted-laid}
-use Rattle.nodes.specs.Meaning.{hintsIs}
+use Rattle.nodes.proofs.Hints.{cut-told}
 use Rattle.nodes.proofs.is_cut.Statement.{statement}
 use Rattle.nodes.proofs.is_cut.Tie as tie
 
@@ -15,10 +14,7 @@ some-dead-requires : tie.Need-some-dead-requires
 some-dead-requires c κs = let l = accepted-laid _ (c .before .before .before .pre) in omega arith
 
 returns : tie.Need-returns
-unfolding hintsIs
-returns c =
-    let e : c .before .wide .result ≡ hintCount (c .before .before .before .before .args .job .now) = omega arith in
-    rw e at (c .some-dead .ensures)
+returns c = let w = c .before .wide in cut-told _ (w .result) _ _ (w .ensures .0 ∙ c .before .before .hint-count .ensures) (c .some-dead .ensures)
 
 pub is-cut-spec : {M : Type 1} → statement M
 is-cut-spec = tie.close (tie.spec hint-count-requires (λ c κs. search needs) some-dead-requires returns)
