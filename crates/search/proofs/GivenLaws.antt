@@ -15,15 +15,19 @@ use Rattle.model.specs.declared.Searched.the-variants.{Planned, Refused}
 use Rattle.model.specs.Verdict.{refusal}
 use Rattle.model.specs.calls.Search as calls
 use Rattle.model.specs.calls.Search.{slotsIn, cleared, writtenOver, ruled, tooSmall, SearchGives}
-use Rattle.model.specs.exploration.Equations.{plan, no-plan}
+use Rattle.model.specs.exploration.Equations.{no-plan}
 use Rattle.model.specs.exploration.Explore.{reached, solve}
 use Rattle.model.specs.job.Layout.{jobOf}
 use Rattle.model.specs.job.Decoding.{jobVerdict}
 use Rattle.model.specs.search.JobSystem.{solveJob, reachedCount}
 use Rattle.dijkstra.specs.Search.{Result, answered, too-small, searchIn}
 use Rattle.dijkstra.proofs.Right.{search-right}
+use Rattle.table.specs.Slots.{slotAt}
+use Rattle.paths.specs.Chain.{held, stepsAt, slotPath}
 use Rattle.held.specs.Held.{sys}
 use Rattle.held.proofs.JobLaws.{sys-laws, sys-finite}
+use Rattle.search.specs.declared.Ended.the-variants.{Goal}
+use Rattle.search.specs.Outcome.{EndsAs}
 use Rattle.search.specs.Given.{searchEnd, endOf, HandsOver}
 
 -- ---- a path handed over
@@ -47,9 +51,10 @@ module _ (table buffer : List ℕ) {res : Result} where
   unfolding calls.answered
   refused-end e = rw e
 
-  -- A path handed over.
-  pub handed-end : {c : ℕ} {p : List ℕ} (r : Searched) (after : List ℕ) → HandsOver c p buffer r after → res ≡ answered (plan c p) → searchEnd r (cleared table) after ≡ endOf res table buffer
-  handed-end r after h e = h table ∙ ap (λ (x : Result). endOf x table buffer) (sym e)
+  -- The path of a goal slot was handed over.
+  pub handed-end : (t : List ℕ) (g n : ℕ) (r : Searched) (after : List ℕ) → EndsAs t (Goal g n) res → HandsOver (slotAt t g .cost) (slotPath (held t n) (stepsAt (held t n) g) g) buffer r after
+      → searchEnd r (cleared table) after ≡ endOf res table buffer
+  handed-end t g n r after e h = h table ∙ ap (λ (x : Result). endOf x table buffer) (sym (e .3))
 
   -- The table is too small: 10.
   pub full-end : res ≡ too-small → searchEnd (Refused (refusal 10 0)) (cleared table) buffer ≡ endOf res table buffer

@@ -68,31 +68,34 @@ module _ (job : List ℕ) (c s : ℕ) (x : Slot) where
 
 -- ---- the choice between slot i and what was found behind it; the test is y
 
-module _ (ss : List Slot) (d : Bool) (i : ℕ) (f : Found) (y : Bool) (tested : y ≡ d) where
+module _ (job t : List ℕ) (n c s i : ℕ) (f : Found) (y : Bool) (tested : y ≡ due job c s (slotAt t i)) where
+  abbrev Chosen : Found
+  Chosen = chosen (held t n) (due job c s (slotAt t i)) i f
+
   -- Slot i is not due,
-  pub chosen-not : not y ≡ true → f ≡ chosen ss d i f
+  pub chosen-not : not y ≡ true → f ≡ Chosen
   unfolding chosen
   chosen-not h = go f
     where
-      e : d ≡ false
+      e : due job c s (slotAt t i) ≡ false
       e = sym tested ∙ not-true y h
 
-      go : (g : Found) → g ≡ chosen ss d i g
+      go : (g : Found) → g ≡ chosen (held t n) (due job c s (slotAt t i)) i g
       go Nothing = rw e
       go (At b) = rw e
 
   -- or it is: alone,
-  pub chosen-only : not y ≡ false → f ≡ Nothing → At i ≡ chosen ss d i f
+  pub chosen-only : not y ≡ false → f ≡ Nothing → At i ≡ Chosen
   unfolding chosen
   chosen-only h q = rw (q, sym tested ∙ not-false y h)
 
   -- behind the other by their paths' order o,
-  pub chosen-behind : (b : ℕ) (o : Bool) → o ≡ order ss b i → not y ≡ false → f ≡ At b → o ≡ true → At b ≡ chosen ss d i f
+  pub chosen-behind : (b : ℕ) (o : Bool) → o ≡ order (held t n) b i → not y ≡ false → f ≡ At b → o ≡ true → At b ≡ Chosen
   unfolding chosen
   chosen-behind b o p h q e = rw (q, sym tested ∙ not-false y h, ← p, e)
 
   -- or before it.
-  pub chosen-here : (b : ℕ) (o : Bool) → o ≡ order ss b i → not y ≡ false → f ≡ At b → o ≡ false → At i ≡ chosen ss d i f
+  pub chosen-here : (b : ℕ) (o : Bool) → o ≡ order (held t n) b i → not y ≡ false → f ≡ At b → o ≡ false → At i ≡ Chosen
   unfolding chosen
   chosen-here b o p h q e = rw (q, sym tested ∙ not-false y h, ← p, e)
 

@@ -1,6 +1,5 @@
 -- `choose` compares two paths only of slots that are due, which have equally many steps.
 use borrow.Author.Needs.{needs}
-use Rattle.paths.specs.Chain.{held}
 use Rattle.search.proofs.GoalLaws.{chosen-not, chosen-only, chosen-behind, chosen-here, comparable}
 use Rattle.search.proofs.goals.choose.Statement.{statement}
 use Rattle.search.proofs.goals.choose.Tie as tie
@@ -8,7 +7,7 @@ use Rattle.search.proofs.goals.choose.Tie as tie
 returns : tie.Need-returns
 returns c =
     let s = c .before .before .before .before .args in
-    chosen-not (held (s .t .now) (s .n)) _ (s .i) (s .found) _ (c .before .is-due .ensures) (c .if1 .taken)
+    chosen-not (s .job .now) (s .t .now) (s .n) (s .cost) (s .steps) (s .i) (s .found) _ (c .before .is-due .ensures) (c .if1 .taken)
 
 before-requires : tie.Need-before-requires
 before-requires c κs =
@@ -20,19 +19,19 @@ returns-2 : tie.Need-returns-2
 returns-2 c =
     let e = c .before .before in
     let s = e .before .before .before .before .args in
-    chosen-only (held (s .t .now) (s .n)) _ (s .i) (s .found) _ (e .before .is-due .ensures) (e .if1 .left) (c .enum-told .given .1)
+    chosen-only (s .job .now) (s .t .now) (s .n) (s .cost) (s .steps) (s .i) (s .found) _ (e .before .is-due .ensures) (e .if1 .left) (c .enum-told .given .1)
 
 returns-3 : tie.Need-returns-3
 returns-3 c =
     let e = c .before .before .before .before .before in
     let s = e .before .before .before .before .args in
-    chosen-behind (held (s .t .now) (s .n)) _ (s .i) (s .found) _ (e .before .is-due .ensures) _ _ (c .before .before2 .ensures) (e .if1 .left) (c .before .before .before .found .given .1) (c .if2 .taken)
+    chosen-behind (s .job .now) (s .t .now) (s .n) (s .cost) (s .steps) (s .i) (s .found) _ (e .before .is-due .ensures) _ _ (c .before .before2 .ensures) (e .if1 .left) (c .before .before .before .found .given .1) (c .if2 .taken)
 
 returns-4 : tie.Need-returns-4
 returns-4 c =
     let e = c .before .before .before .before .before in
     let s = e .before .before .before .before .args in
-    chosen-here (held (s .t .now) (s .n)) _ (s .i) (s .found) _ (e .before .is-due .ensures) _ _ (c .before .before2 .ensures) (e .if1 .left) (c .before .before .before .found .given .1) (c .if2 .left)
+    chosen-here (s .job .now) (s .t .now) (s .n) (s .cost) (s .steps) (s .i) (s .found) _ (e .before .is-due .ensures) _ _ (c .before .before2 .ensures) (e .if1 .left) (c .before .before .before .found .given .1) (c .if2 .left)
 
 pub choose-spec : {M : Type 1} → statement M
 choose-spec =

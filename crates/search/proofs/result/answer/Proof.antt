@@ -22,7 +22,7 @@ returns c =
     let x = c .before .before in
     let g = x .before .before .before .before in
     let s = g .before .before .before .before .before .before .before .before .before .args in
-    handed-end (s .table .now) (s .plan .now) (x .hand-over .result) (x .hand-over .last .1 .1 .1 .0) (x .hand-over .ensures) (found g .3)
+    handed-end (s .table .now) (s .plan .now) (g .before .before .before .before .searched .last .1 .0) (g .g .given .0 .0) (g .g .given .0 .1 .0) (x .hand-over .result) (x .hand-over .last .1 .1 .1 .0) (found g) (x .hand-over .ensures)
 
 returns-2 : tie.Need-returns-2
 returns-2 c =
