@@ -1,20 +1,15 @@
--- Chains of parents, for code that follows them: how long they are, and how two of them compare.
+-- Chains of parents, for code that follows them: different slots have different paths.
 use mathlib.Core.Path.{_≡_, refl, sym, ap, _∙_, subst}
-use Prim.Native.Nat.{ℕ, zero, suc, _≤_, _<_}
+use Prim.Native.Nat.{ℕ, zero, suc}
 use native.Mathlib.Omega.{arith}
-use mathlib.Core.Bool.{false}
 use mathlib.Core.Option.{Option, some}
 use mathlib.Core.List.{List, [], _∷_, _++_}
 use lib.ListN.{length, length-append}
-use lib.Dec.{eqb}
-use borrow.Author.Tests.{ne-eqb}
 use Rattle.model.specs.exploration.System.{System}
 use Rattle.model.specs.exploration.Explore.{Entry}
-use Rattle.model.proofs.exploration.Each.{All, all-map}
-use Rattle.model.proofs.exploration.Counting.{Apart, pigeonhole}
 use Rattle.dijkstra.specs.Records.{Held, Table, pathOf}
-use Rattle.dijkstra.proofs.Slots.{Holds, holds-one, holds-lt}
-use Rattle.dijkstra.proofs.Invariant.{Linked, Inv, linked-steps, path-suc, steps-linked, zero-slot}
+use Rattle.dijkstra.proofs.Slots.{Holds, holds-one}
+use Rattle.dijkstra.proofs.Invariant.{Inv, linked-steps, path-suc, steps-linked, zero-slot}
 
 -- Sequences with one more action are equal where both parts are.
 snoc-parts : (p q : List ℕ) (a b : ℕ) → p ++ (a ∷ []) ≡ q ++ (b ∷ []) → (p ≡ q) × (a ≡ b)
@@ -29,42 +24,6 @@ snoc-parts (x ∷ p) (y ∷ q) a b e =
     ((cc), r .1)
 
 module _ (S : System) {m0 : S .Node} {t : Table S} {P : Entry S → Type 0} (inv : Inv S m0 t P) where
-  -- ---- how long a chain is
-
-  -- Every slot but the first has a parent in the table, of one step less.
-  pub parent-of : (i : ℕ) (r : Held S) → Holds t i r → (i ≡ 0 → ⊥) → (q : Held S) × Holds t (r .parent) q × (r .parent < length t) × (r .key .steps ≡ suc (q .key .steps))
-  parent-of i r h n = let l = inv .linked i r h n in (l .source, l .held, holds-lt t (r .parent) (l .held), linked-steps S l)
-
-  abbrev Within-steps : ℕ → ℕ → Type 0
-  Within-steps n s = (s < length t) × ((q : Held S) × Holds t s q × (q .key .steps ≤ n))
-
-  -- the slots of a chain, which are different
-  abbrev Ancestors : ℕ → Type 0
-  Ancestors n = (xs : List ℕ) × (length xs ≡ suc n) × All (Within-steps n) xs × Apart eqb xs
-
-  ancestors : (n i : ℕ) (r : Held S) → Holds t i r → r .key .steps ≡ n → Ancestors n
-  ancestors zero i r h e = (i ∷ [], refl, ((holds-lt t i h, (r, h, omega arith)), tt), (tt, tt))
-  ancestors (suc n) i r h e = go (ancestors n (r .parent) (l .source) (l .held) (omega (arith, linked-steps S l)))
-    where
-      l : Linked S t r
-      l = steps-linked S inv i r h e
-
-      other : (s : ℕ) → Within-steps n s → eqb i s ≡ false
-      other s w = ne-eqb i s (λ d.
-          let p : r ≡ w .1 .0 = holds-one t s (subst (λ (k : ℕ). Holds t k r) d h) (w .1 .1) in
-          let f : r .key .steps ≡ w .1 .0 .key .steps = ap (λ (z : Held S). z .key .steps) p in
-          omega (arith, w .1 .2))
-
-      go : Ancestors n → Ancestors (suc n)
-      go a = (i ∷ a .0, omega (arith, a .1), ((holds-lt t i h, (r, h, omega arith)), all-map _ _ (λ s w. (w .0, (w .1 .0, w .1 .1, omega (arith, w .1 .2)))) (a .0) (a .2)), (all-map _ _ other (a .0) (a .2), a .3))
-
-  -- A key has fewer steps than the table has slots.
-  pub steps-lt : (i : ℕ) (r : Held S) → Holds t i r → r .key .steps < length t
-  steps-lt i r h =
-      let a = ancestors (r .key .steps) i r h refl in
-      let l = pigeonhole (length t) (a .0) (all-map _ _ (λ s w. w .0) (a .0) (a .2)) (a .3) in
-      omega (arith, a .1)
-
   -- Of the same path is the same slot.
   pub path-slot : (n i j : ℕ) (r q : Held S) → Holds t i r → Holds t j q → r .key .steps ≡ n → q .key .steps ≡ n → pathOf S t n i ≡ pathOf S t n j → i ≡ j
   path-slot zero i j r q h k e f p = zero-slot S inv i r h e ∙ sym (zero-slot S inv j q k f)

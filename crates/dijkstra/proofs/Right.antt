@@ -65,7 +65,7 @@ module _ (S : System) (slots : ℕ) where
     turns-right (suc n) = λ t ready more. turn n (turns-right n) t ready more (leastOpen S t 0) refl
 
 -- the search, by what the start is
-by-start : (S : System) (slots : ℕ) {o : Option (S .Node)} → S .start ≡ o
+pub by-start : (S : System) (slots : ℕ) {o : Option (S .Node)} → S .start ≡ o
     → searchIn S slots ≡ elim o as (λ x. Result) [ none ↦ answered (no-plan 12) | some m ↦ elim (ltb 0 slots) [ true ↦ turns S slots (suc slots) (startTable S m) | false ↦ too-small ] ]
 unfolding searchIn
 by-start S slots e = ap (λ (o : Option (S .Node)). elim o as (λ x. Result) [ none ↦ answered (no-plan 12) | some m ↦ elim (ltb 0 slots) [ true ↦ turns S slots (suc slots) (startTable S m) | false ↦ too-small ] ]) e

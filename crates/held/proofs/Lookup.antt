@@ -36,10 +36,6 @@ module _ (job : List ℕ) where
   unfolding heldIs
   held-node s = refl
 
-  held-taken : (s : Slot) → heldIs job s .taken ≡ s .taken
-  unfolding heldIs
-  held-taken s = refl
-
   held-key : (s : Slot) → heldIs job s .key ≡ keyOf (s .cost) (s .steps)
   unfolding heldIs
   held-key s = refl

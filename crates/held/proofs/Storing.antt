@@ -1,16 +1,15 @@
 -- How the records change where a slot is stored: in place of another, behind the last, or marked as taken.
 use mathlib.Core.Path.{_≡_, refl, sym, ap, _∙_}
-use mathlib.Core.Logic.{_≢_}
 use mathlib.Core.List.{List, [], _∷_, _++_, map}
 use Prim.Native.Nat.{ℕ, zero, suc, _+_, _*_, _≤_, _<_}
 use native.Mathlib.Numerals.{add-one}
 use lib.ListN.{length, set, take}
-use lib.Seq.{take-set-lt, take-suc-set, getD-set-same, getD-set-other}
+use lib.Seq.{take-set-lt, take-suc-set}
 use Rattle.model.proofs.exploration.Each.{All, all-append}
 use Rattle.dijkstra.specs.Records.{take-it, mark}
 use Rattle.dijkstra.proofs.Taking.{mark-is}
 use Rattle.table.specs.declared.Slot.{Slot}
-use Rattle.table.specs.Slots.{slots, slotAt, noSlot, takenSlot}
+use Rattle.table.specs.Slots.{slots, slotAt, takenSlot}
 use Rattle.table.proofs.SlotLaws.{slot-inside}
 use Rattle.held.specs.Held.{sys, heldIs, heldIn, Sound, SoundTo}
 use Rattle.held.proofs.HeldLaws.{held-map, held-at, sound-at}
@@ -35,14 +34,6 @@ all-set P (x ∷ l) (suc i) a p h = (h .0, all-set P l i a p (h .1))
 -- ---- a slot s stored as slot j: the table was t and is u
 
 module _ (t u : List ℕ) (j : ℕ) (s : Slot) (e : slots u ≡ set (slots t) j s) where
-  -- It is slot j,
-  pub slot-new : j * 160 + 160 ≤ length t → slotAt u j ≡ s
-  slot-new h = rw e (getD-set-same (slots t) j s noSlot (slot-inside t j h))
-
-  -- and the others are as they were.
-  pub slot-old : (m : ℕ) → m ≢ j → slotAt u m ≡ slotAt t m
-  slot-old m d = rw e (getD-set-other (slots t) j m s noSlot d)
-
   -- As one of the first n slots, it changes one of them,
   pub first-set : (n : ℕ) → j < n → take n (slots u) ≡ set (take n (slots t)) j s
   first-set n l = rw e (take-set-lt n (slots t) j s l)

@@ -1,11 +1,10 @@
 -- The start of a search: the start node in slot 0, and what the whole search comes to.
 use mathlib.Core.Path.{_≡_, refl, sym, ap, _∙_, subst}
-use mathlib.Core.Bool.{Bool, true, false}
-use mathlib.Core.Option.{Option, none, some}
+use mathlib.Core.Bool.{Bool, false}
+use mathlib.Core.Option.{none, some}
 use mathlib.Core.List.{List, [], _∷_}
 use Prim.Native.Nat.{ℕ, suc, _*_, _≤_, _<_}
 use native.Mathlib.Omega.{arith}
-use lib.Dec.{ltb}
 use lib.ListN.{length, set}
 use borrow.Author.Tests.{lt-ltb, le-ltb}
 use Rattle.model.specs.declared.Verdict.the-variants.{Fine}
@@ -17,8 +16,9 @@ use Rattle.model.specs.job.Decoding.{jobVerdict}
 use Rattle.model.specs.search.Node.{Node}
 use Rattle.model.specs.search.JobSystem.{startNode, isGoal, startHints}
 use Rattle.dijkstra.specs.Records.{Held}
-use Rattle.dijkstra.specs.Search.{Result, answered, too-small, turns, startTable, searchIn}
+use Rattle.dijkstra.specs.Search.{answered, too-small, turns, startTable, searchIn}
 use Rattle.dijkstra.proofs.Turning.{Ready, start-ready}
+use Rattle.dijkstra.proofs.Right.{by-start}
 use Rattle.table.specs.declared.Slot.{Slot}
 use Rattle.table.specs.Slots.{slots}
 use Rattle.nodes.specs.Meaning.{nodeIs, Clean, Carries}
@@ -66,22 +66,17 @@ begun-idle {job} {places} {u} {node} fine starts b room most l =
 -- ---- the whole search, by what the start is
 
 module _ (S : System) (places : ℕ) where
-  by-start : {o : Option (S .Node)} → S .start ≡ o
-      → searchIn S places ≡ elim o as (λ x. Result) [ none ↦ answered (no-plan 12) | some m ↦ elim (ltb 0 places) [ true ↦ turns S places (suc places) (startTable S m) | false ↦ too-small ] ]
-  unfolding searchIn
-  by-start e = ap (λ (o : Option (S .Node)). elim o as (λ x. Result) [ none ↦ answered (no-plan 12) | some m ↦ elim (ltb 0 places) [ true ↦ turns S places (suc places) (startTable S m) | false ↦ too-small ] ]) e
-
   -- It is not reached: 12;
   pub search-none : S .start ≡ none → searchIn S places ≡ answered (no-plan 12)
-  search-none e = by-start e
+  search-none e = by-start S places e
 
   -- there is no slot for it;
   pub search-small : {m : S .Node} → S .start ≡ some m → places ≡ 0 → searchIn S places ≡ too-small
-  search-small e z = by-start e ∙ rw (le-ltb 0 places (omega arith)) refl
+  search-small e z = by-start S places e ∙ rw (le-ltb 0 places (omega arith)) refl
 
   -- or the turns begin.
   pub search-turns : {m : S .Node} → S .start ≡ some m → 0 < places → searchIn S places ≡ turns S places (suc places) (startTable S m)
-  search-turns e l = by-start e ∙ rw (lt-ltb 0 places l) refl
+  search-turns e l = by-start S places e ∙ rw (lt-ltb 0 places l) refl
 
 -- What the turns end as, the search does.
 pub begun-ends : {job u node : List ℕ} {places slots : ℕ} (t : List ℕ) (r : Ended) → Begun job node u → startNode (jobOf job) ≡ some (nodeIs (constraintCount job) node)
