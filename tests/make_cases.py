@@ -1,11 +1,18 @@
-"""Writes what the programs `cases` and `dagzhimo` are run on and what they must print: the cases of document 01, each with what it says of it.
+"""Writes what the programs `cases` and `dagzhimo` are run on and what they must print: the cases of document 01, each with what it says of it, and
+random rules with what they are to be written back as, by the document's words.
 
     tests/make_cases.py"""
 
 import pathlib
+import random
 import struct
+import sys
 
 ROOT = pathlib.Path(__file__).resolve().parent.parent / "crates"
+sys.path.insert(0, str(ROOT.parent / "tests" / "oracle"))
+
+from compare import formula  # noqa: E402
+from oracle import Refused, read_section, true_at  # noqa: E402
 
 
 def facts(value):
@@ -42,6 +49,48 @@ def write_back(rule, count=3, steps=3):
     return b"w" + bytes([len(rule), 0, count, steps]) + bytes(rule)
 
 
+# ---- rules written back, by document 01's words
+
+DUAL = {"and": 0x12, "or": 0x11, "until": 0x24, "release": 0x23, "eventually": 0x22, "always": 0x21}
+CODE = {"false": 0x00, "true": 0x01, "last": 0x02, "fact": 0x03, "step": 0x04, "and": 0x11, "or": 0x12, "next": 0x20, "eventually": 0x21,
+        "always": 0x22, "until": 0x23, "release": 0x24}
+
+
+def positive(rule, negated=False):
+    """The bytes of a formula, or of its negation, with not only before fact, step or last."""
+    kind, rest = rule[0], rule[1:-1]
+    if kind == "not":
+        return positive(rest[0], not negated)
+    if kind in ("false", "true"):
+        return [CODE[kind] ^ negated]
+    if kind in ("last", "fact", "step"):
+        return [0x10] * negated + [CODE[kind], *rest]
+    if kind == "next":
+        return [0x12, 0x02] * negated + [0x20, *positive(rest[0], negated)]
+    return [DUAL[kind] if negated else CODE[kind]] + [b for x in rest for b in positive(x, negated)]
+
+
+def same_meaning(rng, rule, other):
+    for _ in range(20):
+        worlds = [(frozenset(i for i in range(3) if rng.random() < 0.5), rng.choice([None, 0, 1, 2])) for _ in range(rng.randint(1, 5))]
+        assert true_at(worlds, 0, rule) == true_at(worlds, 0, other)
+
+
+def random_rules(count):
+    """Random rules and what they are written back as; that it means the same is tried on random worlds."""
+    rng = random.Random(20261115)
+    for _ in range(count):
+        data = bytes(formula(rng, 3, 3, rng.randint(1, 4)))[:60]
+        try:
+            rule = read_section(data, 0, len(data), 3, 3)
+        except Refused as r:
+            yield write_back(data), f"refused {r.number} {r.place}"
+            continue
+        out = bytes(positive(rule))
+        same_meaning(rng, rule, read_section(out, 0, len(out), 3, 3))
+        yield write_back(data), f"written {len(out)}: " + out.hex(" ")
+
+
 NEXTS = [0x20] * 6 + [0x03, 0x00]
 
 CASES = [
@@ -71,8 +120,9 @@ CASES = [
 
 
 def main():
-    (ROOT / "cases" / "stdin").write_bytes(b"".join(data for data, _ in CASES))
-    (ROOT / "cases" / "stdout").write_text("".join(line + "\n" for _, line in CASES))
+    cases = CASES + list(random_rules(200))
+    (ROOT / "cases" / "stdin").write_bytes(b"".join(data for data, _ in cases))
+    (ROOT / "cases" / "stdout").write_text("".join(line + "\n" for _, line in cases))
     (ROOT / "dagzhimo" / "stdin").write_bytes(p())
     (ROOT / "dagzhimo" / "stdout").write_text("plan 3 16\n0\n1\n2\n")
 
