@@ -4,6 +4,7 @@ use super::Found;
 use super::cells;
 use super::cells::ROW;
 use super::slots;
+use task::Key;
 ghost use mathlib.Core.Path.{_≡_};
 ghost use Prim.Native.Nat.{_+_, _*_, _≤_};
 ghost use lib.ListN.{length, take};
@@ -57,13 +58,11 @@ pub fn find(t: &[u8], n: usize, node: [u64; 9]) -> Found
 fn is_less(cost: u64, steps: u64, cost2: u64, steps2: u64) -> bool
     ensures { λ r. ⌜ r ≡ less (keyOf cost steps) (keyOf cost2 steps2) ⌝ }
 {
-    if cost < cost2 {
-        return true;
-    }
-    if cost == cost2 {
-        return steps < steps2;
-    }
-    false
+    let key = Key { cost, steps };
+    key.less(Key {
+        cost: cost2,
+        steps: steps2,
+    })
 }
 
 // The better of the slot i and the best behind it; of equal keys the first.
