@@ -3,6 +3,7 @@ use super::Ended;
 use super::turns;
 use table::Slot;
 use table::slots;
+use task::Key;
 ghost use mathlib.Core.Path.{_≡_};
 ghost use Prim.Native.Nat.{_≤_};
 ghost use lib.ListN.{length};
@@ -22,14 +23,15 @@ fn begin(job: &[u8], t: &mut [u8], node: [u64; 9])
 {
     let hints = nodes::start_hints(job);
     let goal = nodes::is_goal(job, node);
+    let key = Key::ZERO;
     slots::store(
         t,
         0,
         Slot {
             node,
             hints,
-            cost: 0,
-            steps: 0,
+            cost: key.cost,
+            steps: key.steps,
             parent: 0,
             action: 0,
             taken: false,
