@@ -117,7 +117,7 @@ def wanted_validate(job, steps):
 def enumerate_lists(job, answer):
     """Without hints, the answer against every step list of few steps."""
     parsed = Job(job)
-    if parsed.hints or len(parsed.steps) > 3:
+    if parsed.hints:
         return
     best = parsed.best_up_to(5)
     if answer[0] == 0 and answer[2] <= 5:
@@ -145,7 +145,7 @@ def main():
         if got not in ends:
             sys.exit(f"seed {seed}, job {count}: search of {job.hex()} in {len(table)} bytes, buffer {len(plan)}: got {got[0]}, wanted {[e[0] for e in ends]}")
         met[got[0][0]] = met.get(got[0][0], 0) + 1
-        if main_number in (0, 12) and got[0][0] == main_number and count % 4 == 0:
+        if main_number in (0, 12) and got[0][0] == main_number:
             enumerate_lists(job, got[0])
         lists = [bytes(rng.randrange(5) for _ in range(rng.randint(0, 4)))]
         if got[0][0] == 0:
