@@ -12,6 +12,7 @@ ghost use Rattle.model.specs.job.Layout.{actionCount, constraintCount, hintCoun
 ghost use Rattle.model.specs.job.Decoding.{jobVerdict};
 ghost use Rattle.model.specs.search.Node.{someDead};
 ghost use Rattle.model.specs.search.JobSystem.{startNode, nextNode, isGoal, startHints, carryHints};
+ghost use Rattle.progression.specs.Memo.{Memo};
 ghost use Rattle.nodes.specs.Meaning.{nodeIs, hintsIs, Acts, Costs, Made, Leads, Carries};
 
 // What an action leads to. Where it leads nowhere, alive is false and the node, clean as any, means nothing.
@@ -94,10 +95,10 @@ pub fn start(job: &[u8]) -> Reached
 }
 
 // The node that action i leads to. The constraints see the state after the action.
-pub fn next(job: &[u8], node: [u64; 9], i: u8) -> Reached
-    requires { ⌜ (jobVerdict (now job) ≡ Fine) × (i < actionCount (now job)) ⌝ }
+pub fn next(job: &[u8], work: &mut [u64; 8224], node: [u64; 9], i: u8) -> Reached
+    requires { ⌜ (jobVerdict (now job) ≡ Fine) × (i < actionCount (now job)) × Memo (now job) (now work) ⌝ }
     ensures { λ r. ⌜ Leads (constraintCount (now (job .entry)))
-        (nextNode (jobOf (now (job .entry))) (nodeIs (constraintCount (now (job .entry))) node) i) r ⌝ }
+        (nextNode (jobOf (now (job .entry))) (nodeIs (constraintCount (now (job .entry))) node) i) r × Memo (now (job .entry)) (now (work .exit)) ⌝ }
 {
     let action = action_of(job, i);
     let state = State { facts: node[0] };
@@ -111,7 +112,7 @@ pub fn next(job: &[u8], node: [u64; 9], i: u8) -> Reached
     unless_dead(
         job,
         facts,
-        progression::constraints_next(job, residuals_of(node), facts, i),
+        progression::constraints_next(job, work, residuals_of(node), facts, i),
     )
 }
 
@@ -136,12 +137,19 @@ pub fn start_hints(job: &[u8]) -> [u64; 8]
 }
 
 // What the hints leave at the node that action i led to.
-pub fn next_hints(job: &[u8], hints: [u64; 8], node: [u64; 9], i: u8) -> [u64; 8]
-    requires { ⌜ (jobVerdict (now job) ≡ Fine) × (i < actionCount (now job)) ⌝ }
+pub fn next_hints(
+    job: &[u8],
+    work: &mut [u64; 8224],
+    hints: [u64; 8],
+    node: [u64; 9],
+    i: u8,
+) -> [u64; 8]
+    requires { ⌜ (jobVerdict (now job) ≡ Fine) × (i < actionCount (now job)) × Memo (now job) (now work) ⌝ }
     ensures { λ r. ⌜ Carries (hintCount (now (job .entry)))
-        (carryHints (jobOf (now (job .entry))) (hintsIs (hintCount (now (job .entry))) hints) (nodeIs (constraintCount (now (job .entry))) node) i) r ⌝ }
+        (carryHints (jobOf (now (job .entry))) (hintsIs (hintCount (now (job .entry))) hints) (nodeIs (constraintCount (now (job .entry))) node) i) r
+        × Memo (now (job .entry)) (now (work .exit)) ⌝ }
 {
-    progression::hints_next(job, hints, node[0], i)
+    progression::hints_next(job, work, hints, node[0], i)
 }
 
 // Whether no plan through here meets the hints: one of them is dead.

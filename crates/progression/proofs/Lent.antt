@@ -1,5 +1,5 @@
 -- The formula of a section that is lent on from o to o + n, as the evaluator takes it.
-use mathlib.Core.Path.{_≡_, ap}
+use mathlib.Core.Path.{_≡_, ap, subst}
 use mathlib.Core.List.{List}
 use Prim.Native.Nat.{ℕ, _+_, _-_, _≤_, _<_}
 use lib.ListN.{take, drop}
@@ -11,8 +11,12 @@ use Rattle.model.specs.logic.Progression.{residual, progressed, closing}
 use Rattle.model.specs.job.Layout.{pairCount, pairOffset, pairLength, formulaAt}
 use Rattle.model.specs.job.Decoding.{jobVerdict}
 use Rattle.model.proofs.logic.PartsLaws.{length-parts}
-use Rattle.job.proofs.Accepted.{accepted-formula, accepted-lent}
+use native.Mathlib.Omega.{arith}
+use Rattle.job.proofs.Accepted.{accepted-laid, accepted-formula, accepted-lent}
 use Rattle.residual.specs.Residual.{Ready, residualOf, progressedOf, closingOf}
+use Rattle.progression.specs.Named.{Names, NamesIn, Behind}
+use Rattle.progression.proofs.NamedLaws.{read-named}
+use Rattle.residual.proofs.Constants.{dead-progressed, true-progressed}
 
 module _ (bytes : List ℕ) (h : jobVerdict bytes ≡ Fine) (i : ℕ) (m : 1 ≤ i) (l : i < pairCount bytes) where
   few-parts : count (formulaAt bytes i) ≤ 6
@@ -38,3 +42,19 @@ module _ (bytes : List ℕ) (h : jobVerdict bytes ≡ Fine) (i : ℕ) (m : 1 ≤
         → closingOf (parsed 64 64 (take (o + n - o) (drop o bytes)) 0) r w ≡ closing (partsOf (formulaAt bytes i)) r w
     unfolding closingOf
     lent-closing r w = ap (λ (x : Parsed). closingOf x r w) (accepted-lent bytes h i m l p q)
+
+    -- What is named behind its codes.
+    pub lent-named : (f a : ℕ) → Behind 0x03 (take (o + n - o) (drop o bytes)) f → Behind 0x04 (take (o + n - o) (drop o bytes)) a → Names f a (formulaAt bytes i)
+    lent-named f a hf ha = subst (NamesIn f a) (accepted-lent bytes h i m l p q) (read-named f a (take (o + n - o) (drop o bytes)) hf ha)
+
+  -- A residual that is the same at every setting stays as it is.
+  pub dead-left : (w : World) → progressed 6 (partsOf (formulaAt bytes i)) 0 w ≡ 0
+  dead-left w = dead-progressed (formulaAt bytes i) few-parts w
+
+  pub true-left : (w : World) → progressed 6 (partsOf (formulaAt bytes i)) 0xffff_ffff_ffff_ffff w ≡ 0xffff_ffff_ffff_ffff
+  true-left w = true-progressed (formulaAt bytes i) few-parts w
+
+-- There are at most sixteen formulas.
+pub few-sections : (bytes : List ℕ) → jobVerdict bytes ≡ Fine → pairCount bytes ≤ 17
+unfolding pairCount
+few-sections bytes h = let l = accepted-laid bytes h in omega arith

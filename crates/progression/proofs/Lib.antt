@@ -3,3 +3,5 @@ pub mod Padding
 pub mod Rows
 pub mod Dead
 pub mod Lent
+pub mod NamedLaws
+pub mod MemoLaws

@@ -1,1 +1,3 @@
 pub mod Padded
+pub mod Named
+pub mod Memo

@@ -4,7 +4,7 @@ use job::access;
 ghost use mathlib.Core.Path.{_≡_};
 ghost use mathlib.Core.Option.{none, some};
 ghost use Prim.Native.Nat.{_+_, _≤_, _<_};
-ghost use lib.ListN.{take};
+ghost use lib.ListN.{take, replicate};
 ghost use Rattle.model.specs.declared.Verdict.the-variants.{Fine};
 ghost use Rattle.model.specs.logic.Parts.{partsOf};
 ghost use Rattle.model.specs.logic.Progression.{closing};
@@ -12,8 +12,11 @@ ghost use Rattle.model.specs.job.Layout.{constraintCount, hintCount, formulaAt,
 ghost use Rattle.model.specs.job.Decoding.{jobVerdict};
 ghost use Rattle.model.specs.search.Node.{residuals, progressedAll, closingAll, someDead, meetAll};
 ghost use Rattle.progression.specs.Padded.{padded};
+ghost use Rattle.progression.specs.Memo.{Memo};
 
 mod section; // section.rt: the formula in one section
+mod named; // named.rt: what a formula names
+mod memo; // memo.rt: what residuals leave, kept
 mod row; // row.rt: the formulas in neighbouring sections
 
 // What the constraints leave after the first world, in which no action was made.
@@ -35,25 +38,51 @@ pub fn hints_first(job: &[u8], state: u64) -> [u64; 8]
     row::first(job, from, count, state)
 }
 
+// Readies a memo of zeros for a job.
+pub fn prepare(job: &[u8], work: &mut [u64; 8224])
+    requires { ⌜ (jobVerdict (now job) ≡ Fine) × (now work ≡ replicate 8224 0) ⌝ }
+    ensures { λ _. ⌜ Memo (now (job .entry)) (now (work .exit)) ⌝ }
+{
+    memo::prepare(job, work);
+}
+
 // What the constraints' residuals leave after a world.
-pub fn constraints_next(job: &[u8], rs: [u64; 8], state: u64, action: u8) -> [u64; 8]
-    requires { ⌜ (jobVerdict (now job) ≡ Fine) × (action < 64) ⌝ }
-    ensures { λ r. ⌜ r ≡ padded (progressedAll (jobOf (now (job .entry)) .constraints) (take (constraintCount (now (job .entry))) rs)
-        (record { state = state; made = some action })) ⌝ }
+pub fn constraints_next(
+    job: &[u8],
+    work: &mut [u64; 8224],
+    rs: [u64; 8],
+    state: u64,
+    action: u8,
+) -> [u64; 8]
+    requires { ⌜ (jobVerdict (now job) ≡ Fine) × (action < 64) × Memo (now job) (now work) ⌝ }
+    ensures { λ r. ⌜ (r ≡ padded (progressedAll (jobOf (now (job .entry)) .constraints) (take (constraintCount (now (job .entry))) rs)
+        (record { state = state; made = some action }))) × Memo (now (job .entry)) (now (work .exit)) ⌝ }
 {
     let count = access::wide(access::constraint_count(job));
-    row::next(job, 1, count, rs, state, action)
+    if count == 0 {
+        return [0u64; 8];
+    }
+    row::next(job, work, 1, count, rs, state, action)
 }
 
 // What the hints' residuals leave after a world.
-pub fn hints_next(job: &[u8], rs: [u64; 8], state: u64, action: u8) -> [u64; 8]
-    requires { ⌜ (jobVerdict (now job) ≡ Fine) × (action < 64) ⌝ }
-    ensures { λ r. ⌜ r ≡ padded (progressedAll (jobOf (now (job .entry)) .hints) (take (hintCount (now (job .entry))) rs)
-        (record { state = state; made = some action })) ⌝ }
+pub fn hints_next(
+    job: &[u8],
+    work: &mut [u64; 8224],
+    rs: [u64; 8],
+    state: u64,
+    action: u8,
+) -> [u64; 8]
+    requires { ⌜ (jobVerdict (now job) ≡ Fine) × (action < 64) × Memo (now job) (now work) ⌝ }
+    ensures { λ r. ⌜ (r ≡ padded (progressedAll (jobOf (now (job .entry)) .hints) (take (hintCount (now (job .entry))) rs)
+        (record { state = state; made = some action }))) × Memo (now (job .entry)) (now (work .exit)) ⌝ }
 {
     let from = 1 + access::wide(access::constraint_count(job));
     let count = access::wide(access::hint_count(job));
-    row::next(job, from, count, rs, state, action)
+    if count == 0 {
+        return [0u64; 8];
+    }
+    row::next(job, work, from, count, rs, state, action)
 }
 
 // Whether a residual of formula i, constraints before hints, is true of the closing world.

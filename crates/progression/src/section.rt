@@ -1,4 +1,5 @@
 // The formula in section i of an accepted job: the section is lent on to the evaluator.
+use super::named;
 use job::access;
 ghost use mathlib.Core.Path.{_≡_};
 ghost use mathlib.Core.Option.{none, some};
@@ -8,6 +9,7 @@ ghost use Rattle.model.specs.logic.Parts.{partsOf};
 ghost use Rattle.model.specs.logic.Progression.{residual, progressed, closing};
 ghost use Rattle.model.specs.job.Layout.{pairCount, formulaAt};
 ghost use Rattle.model.specs.job.Decoding.{jobVerdict};
+ghost use Rattle.progression.specs.Named.{Names};
 
 // What the formula leaves after the first world.
 pub fn first(job: &[u8], i: usize, state: u64) -> u64
@@ -37,4 +39,22 @@ pub fn closing(job: &[u8], i: usize, r: u64, state: u64) -> bool
     let start = access::section_offset(job, i);
     let end = start + access::section_length(job, i);
     residual::closing(&job[start..end], r, state)
+}
+
+// The facts and the actions that a formula names, as sets.
+pub struct Named {
+    pub facts: u64,
+    pub actions: u64,
+}
+
+// What the formula names, and perhaps more.
+pub fn names(job: &[u8], i: usize) -> Named
+    requires { ⌜ (jobVerdict (now job) ≡ Fine) × (1 ≤ i) × (i < pairCount (now job)) ⌝ }
+    ensures { λ r. ⌜ Names (r .facts) (r .actions) (formulaAt (now (job .entry)) i) ⌝ }
+{
+    let start = access::section_offset(job, i);
+    let end = start + access::section_length(job, i);
+    let facts = named::behind(&job[start..end], 3);
+    let actions = named::behind(&job[start..end], 4);
+    Named { facts, actions }
 }

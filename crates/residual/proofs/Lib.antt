@@ -6,3 +6,4 @@ pub mod Walks
 pub mod Upwards
 pub mod Settings
 pub mod Answers
+pub mod Constants

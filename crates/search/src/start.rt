@@ -55,5 +55,7 @@ pub fn searched(job: &[u8], t: &mut [u8]) -> Ended
     }
     let node = first.node;
     begin(job, t, node);
-    turns::run(job, t, places)
+    let mut work = [0u64; 8224];
+    progression::prepare(job, &mut work);
+    turns::run(job, &mut work, t, places)
 }

@@ -24,6 +24,8 @@ fn through(job: &[u8], steps: &[u8]) -> Validated
     ensures { λ r. ⌜ r ≡ answer (inTurn (length (now (steps .entry))) (stepVerdict (jobOf (now (job .entry))) (now (steps .entry))))
         (judged (jobOf (now (job .entry))) (walkOf (jobOf (now (job .entry))) (now (steps .entry)))) ⌝ }
 {
+    let mut work = [0u64; 8224];
+    progression::prepare(job, &mut work);
     let mut w = walk::start(job);
     let mut i = 0;
     while i < steps.len() {
@@ -31,7 +33,7 @@ fn through(job: &[u8], steps: &[u8]) -> Validated
         if let Verdict::Bad(refusal) = verdict {
             return Validated::Refused(refusal);
         }
-        w = walk::make(job, w, steps[i]);
+        w = walk::make(job, &mut work, w, steps[i]);
         i += 1;
     }
     end::judged(job, w)

@@ -9,36 +9,38 @@ use Rattle.expansion.proofs.arrive.Tie as tie
 
 relax-requires : tie.Need-relax-requires
 relax-requires c κs =
-    let j = c .before .before in
+    let j = c .before .before .before in
     let f = j .before .before in
     let s = f .before .before .before .before in
-    ((s .args .places, s .pre .0), find-inside (s .args .t .now) (s .args .node) (s .args .n) _ _ (f .find .ensures) (j .j .given .1))
+    ((s .args .places, s .pre .0), find-inside (s .args .t .now) (s .args .node) (s .args .n) _ _ (f .find .ensures) (j .j .given .1), s .pre .2)
 
 fresh-requires : tie.Need-fresh-requires
 fresh-requires c κs =
-    let s = c .before .before .before .before .before .before .before in
-    (extends-free (s .pre .0) (c .if1 .taken), omega (arith, s .pre .0 .running .used, s .pre .0 .running .most, s .pre .0 .inside), s .pre .1)
+    let s = c .before .before .before .before .before .before .before .before in
+    (extends-free (s .pre .0) (c .before .if1 .taken), omega (arith, s .pre .0 .running .used, s .pre .0 .running .most, s .pre .0 .inside), s .pre .1, s .pre .2)
 
 returns : tie.Need-returns
 returns c =
-    let j = c .before .before .before .before .before in
+    let j = c .before .before .before .before .before .before in
     let f = j .before .before in
-    let s = f .before .before .before .before in
-    grew-relaxed (s .pre .0) (s .args .node) (s .pre .1) (f .find .ensures) _ (j .j .given .1) (c .before .before .relax .ensures)
-    (find-inside (s .args .t .now) (s .args .node) (s .args .n) _ _ (f .find .ensures) (j .j .given .1))
+    let s = f .before .before .before .before in (
+      grew-relaxed (s .pre .0) (s .args .node) (s .pre .1) (f .find .ensures) _ (j .j .given .1) (c .before .before .relax .ensures .0)
+          (find-inside (s .args .t .now) (s .args .node) (s .args .n) _ _ (f .find .ensures) (j .j .given .1)),
+      c .before .before .relax .ensures .1,
+    )
 
 returns-2 : tie.Need-returns-2
 returns-2 c =
     let m = c .before .before .before .before in
-    let f = m .before .before .before .before in
+    let f = m .before .before .before .before .before in
     let s = f .before .before .before .before in
-    grew-new (s .pre .0) (s .args .node) (s .pre .1) (f .find .ensures) (m .before .before .enum-told .given .1) (c .before .before .store .ensures) (m .fresh .ensures) (m .before .if1 .taken)
+    (grew-new (s .pre .0) (s .args .node) (s .pre .1) (f .find .ensures) (m .before .before .before .enum-told .given .1) (c .before .before .store .ensures) (m .fresh .ensures .0) (m .before .before .if1 .taken), m .fresh .ensures .1)
 
 returns-3 : tie.Need-returns-3
 returns-3 c =
     let f = c .before .before .before in
     let s = f .before .before .before .before in
-    grew-full (s .pre .0) (s .args .node) (s .pre .1) (f .find .ensures) (c .before .enum-told .given .1) (c .if1 .left)
+    (grew-full (s .pre .0) (s .args .node) (s .pre .1) (f .find .ensures) (c .before .enum-told .given .1) (c .if1 .left), s .pre .2)
 
 pub arrive-spec : {M : Type 1} → statement M
 arrive-spec =

@@ -8,14 +8,14 @@ use Rattle.expansion.proofs.follow.Tie as tie
 returns : tie.Need-returns
 returns c =
     let n = c .before .before in
-    let s = n .before .before .before .before in
-    grew-nowhere (s .pre) (n .next .ensures) (not-true _ (c .if1 .taken))
+    let s = n .before .before .before .before .before in
+    (grew-nowhere (s .pre .0) (n .next .ensures .0) (not-true _ (c .if1 .taken)), n .next .ensures .1)
 
 returns-2 : tie.Need-returns-2
 returns-2 c =
-    let e = c .before .before .before .before .before in
+    let e = c .before .before .before .before .before .before in
     let n = e .before .before in
-    grew-to (n .before .before .before .before .pre) (n .next .ensures) (not-false _ (e .if1 .left)) (c .before .before .arrive .ensures)
+    (grew-to (n .before .before .before .before .before .pre .0) (n .next .ensures .0) (not-false _ (e .if1 .left)) (c .before .before .arrive .ensures .0), c .before .before .arrive .ensures .1)
 
 pub follow-spec : {M : Type 1} → statement M
 follow-spec = tie.close (tie.spec (λ c κs. search needs) returns (λ c κs. search needs) (λ c. search needs) returns-2)

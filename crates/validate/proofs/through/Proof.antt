@@ -12,6 +12,7 @@ use Rattle.model.proofs.job.VerdictLaws.{inTurn-first}
 use Rattle.job.proofs.TurnLaws.{none-yet, fine-at, all-fine}
 use Rattle.validate.specs.declared.walk.Walk.{Walk}
 use Rattle.validate.specs.Walk.{started, walkOf, judged}
+use Rattle.progression.specs.Memo.{Memo}
 use Rattle.nodes.proofs.Fields.{length-actions}
 use Rattle.validate.proofs.Walks.{walk-none, walk-more, walk-all}
 use Rattle.validate.proofs.Verdicts.{answer-bad, answer-fine, step-checked, step-known}
@@ -19,15 +20,16 @@ use Rattle.validate.proofs.through.Statement.{statement}
 use Rattle.validate.proofs.through.Tie as tie
 
 abbrev Inv-loop : tie.InvT-loop
-Inv-loop job steps w₀ i₀ w i =
+Inv-loop job steps work₀ w₀ i₀ work w i =
     (i ≤ length steps) × (w ≡ walkOf (jobOf job) (take i steps)) × (w .cost ≤ 65_535 * i) × (inTurn i (stepVerdict (jobOf job) steps) ≡ Fine)
+    × Memo job work
 
 abbrev μ-loop : tie.MeasureT-loop
-μ-loop job steps w₀ i₀ w i = length steps - i
+μ-loop job steps work₀ w₀ i₀ work w i = length steps - i
 
 -- the function's entry
 abbrev entry : tie.After-check-step Inv-loop μ-loop → tie.Start Inv-loop μ-loop
-entry c = c .before .before .before .before .before .before .before
+entry c = c .before .before .before .before .before .before .before .before .before
 
 -- the code's check is that of step i
 told : (c : tie.After-check-step Inv-loop μ-loop)
@@ -38,7 +40,7 @@ told c =
 
 loop-holds : tie.Need-loop-holds Inv-loop μ-loop
 unfolding started
-loop-holds c = (omega arith, c .start .ensures ∙ walk-none _, omega (arith, ap (λ (w : Walk). w .cost) (c .start .ensures)), none-yet _)
+loop-holds c = (omega arith, c .start .ensures ∙ walk-none _, omega (arith, ap (λ (w : Walk). w .cost) (c .start .ensures)), none-yet _, c .before .prepare .ensures)
 
 returns : tie.Need-returns Inv-loop μ-loop
 returns c =
@@ -49,18 +51,19 @@ returns c =
 
 make-requires : tie.Need-make-requires Inv-loop μ-loop
 make-requires c κs =
-    let d = c .before .before .before in
+    let d = c .before .before .before .before in
     let s = entry d in (
       s .pre .0,
       rw length-actions at
           (step-known (getD (s .args .steps .now) (d .before .before .before .loop .i) 0) _ _ _
-          (sym (d .check-step .ensures) ∙ c .before .enum-told .given .1)),
+          (sym (d .check-step .ensures) ∙ c .before .before .enum-told .given .1)),
       omega arith,
+      d .before .before .before .loop .inv .4,
     )
 
 loop-again : tie.Need-loop-again Inv-loop μ-loop
 loop-again c =
-    let e = c .before .before in
+    let e = c .before .before .before in
     let d = e .before .before in
     let l = d .before .before .before .loop in
     let s = entry d in
@@ -71,12 +74,13 @@ loop-again c =
       omega arith,
       fine-at (stepVerdict j p) (l .i) Fine
           (l .inv .3) (sym (e .enum-told .given .1) ∙ told d) refl refl,
+      c .make .ensures .2,
     )
 
 returns-2 : tie.Need-returns-2 Inv-loop μ-loop
 returns-2 c =
     let l = c .before .before .loop in
-    let s = c .before .before .before .before .before .before in
+    let s = c .before .before .before .before .before .before .before .before in
     let j = jobOf (s .args .job .now) in
     let p = s .args .steps .now in
     let n : l .i ≡ length p = omega arith in
@@ -89,6 +93,7 @@ through-spec =
     (tie.spec
     Inv-loop
     μ-loop
+    (λ c κs. (c .before .before .before .pre .0, refl))
     (λ c κs. search needs)
     loop-holds
     (λ c. search needs)

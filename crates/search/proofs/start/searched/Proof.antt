@@ -1,6 +1,6 @@
 -- `searched` ends at once if the start node is not reached or has no slot; else the turns begin.
 use mathlib.Core.Option.{some}
-use mathlib.Core.Path.{_≡_, sym, _∙_}
+use mathlib.Core.Path.{_≡_, refl, sym, _∙_}
 use native.Mathlib.Omega.{arith}
 use borrow.Author.Tests.{not-true, not-false}
 use borrow.Author.Needs.{needs}
@@ -29,20 +29,23 @@ returns-2 c =
     let s = x .before .before .before .before .before .args in
     search-small (sys (s .job .now)) (slotsIn (s .t .now)) (starts x) (sym (c .before .capacity .ensures .0) ∙ c .if2 .taken)
 
+prepare-requires : tie.Need-prepare-requires
+prepare-requires c κs = (c .before .before .before .before .before .before .before .before .before .before .before .before .before .before .pre, refl)
+
 run-requires : tie.Need-run-requires
 run-requires c κs =
-    let y = c .before .before .before in
+    let y = c .before .before .before .before .before .before in
     let k = y .before .before .before .before in
     let x = k .before .before in
-    begun-idle (x .before .before .before .before .before .pre) (starts x) (y .begin .ensures) (omega (arith, k .capacity .ensures .1)) (k .capacity .ensures .2) (omega arith)
+    (begun-idle (x .before .before .before .before .before .pre) (starts x) (y .begin .ensures) (omega (arith, k .capacity .ensures .1)) (k .capacity .ensures .2) (omega arith), c .before .before .prepare .ensures)
 
 returns-3 : tie.Need-returns-3
 returns-3 c =
     let r = c .before .before in
-    let y = r .before .before .before .before in
+    let y = r .before .before .before .before .before .before .before in
     let k = y .before .before .before .before in
     let x = k .before .before in
-    begun-ends (r .run .last .1 .0) (r .run .result) (y .begin .ensures) (starts x) (r .run .ensures) (k .capacity .ensures .0) (omega arith)
+    begun-ends (r .run .last .1 .1 .0) (r .run .result) (y .begin .ensures) (starts x) (r .run .ensures) (k .capacity .ensures .0) (omega arith)
 
 pub searched-spec : {M : Type 1} → statement M
 searched-spec =
@@ -54,6 +57,7 @@ searched-spec =
     (λ c. search needs)
     returns-2
     (λ c κs. search needs)
+    prepare-requires
     run-requires
     (λ c. search needs)
     returns-3)

@@ -9,24 +9,24 @@ use Rattle.search.proofs.turns.take.Tie as tie
 returns : tie.Need-returns
 returns c =
     let m = c .before .before .before in
-    cut-on (m .before .before .before .before .before .before .pre) (m .mark .last .0) (m .mark .ensures) (omega arith) (sym (m .before .before .slot-cut .ensures) ∙ c .if1 .taken)
+    (cut-on (m .before .before .before .before .before .before .pre .0) (m .mark .last .0) (m .mark .ensures) (omega arith) (sym (m .before .before .slot-cut .ensures) ∙ c .if1 .taken), m .before .before .before .before .before .before .pre .1)
 
 expand-requires : tie.Need-expand-requires
 expand-requires c κs =
-    let m = c .before .before .before .before in
-    uncut-busy (m .before .before .before .before .before .before .pre) (m .mark .last .0) (m .mark .ensures) (omega arith) (sym (m .before .before .slot-cut .ensures) ∙ c .before .if1 .left)
+    let m = c .before .before .before .before .before in
+    (uncut-busy (m .before .before .before .before .before .before .pre .0) (m .mark .last .0) (m .mark .ensures) (omega arith) (sym (m .before .before .slot-cut .ensures) ∙ c .before .before .if1 .left), m .before .before .before .before .before .before .pre .1)
 
 returns-2 : tie.Need-returns-2
 returns-2 c =
     let x = c .before .before .before .before .before in
-    let m = x .before .before .before .before .before in
-    grown-turned (m .before .before .before .before .before .before .pre) (m .mark .last .0) (m .mark .ensures) (omega arith) (sym (m .before .before .slot-cut .ensures) ∙ x .before .before .if1 .left) (x .expand .ensures) _ (c .before .m .given .1) (omega arith)
+    let m = x .before .before .before .before .before .before in
+    (grown-turned (m .before .before .before .before .before .before .pre .0) (m .mark .last .0) (m .mark .ensures) (omega arith) (sym (m .before .before .slot-cut .ensures) ∙ x .before .before .before .if1 .left) (x .expand .ensures .0) _ (c .before .m .given .1) (omega arith), x .expand .ensures .1)
 
 returns-3 : tie.Need-returns-3
 returns-3 c =
     let x = c .before .before .before .before in
-    let m = x .before .before .before .before .before in
-    full-ends (m .before .before .before .before .before .before .pre) (m .mark .last .0) (m .mark .ensures) (omega arith) (sym (m .before .before .slot-cut .ensures) ∙ x .before .before .if1 .left) (x .expand .ensures) (c .enum-told .given .1)
+    let m = x .before .before .before .before .before .before in
+    (full-ends (m .before .before .before .before .before .before .pre .0) (m .mark .last .0) (m .mark .ensures) (omega arith) (sym (m .before .before .slot-cut .ensures) ∙ x .before .before .before .if1 .left) (x .expand .ensures .0) (c .enum-told .given .1), x .expand .ensures .1)
 
 pub take-spec : {M : Type 1} → statement M
 take-spec =

@@ -9,15 +9,15 @@ first-goal-requires c κs = let p = c .before .before .before .before .before .b
 
 take-requires : tie.Need-take-requires
 take-requires c κs =
-    let x = c .before .before .before in
+    let x = c .before .before .before .before in
     let p = x .before .before .before .before .before .before .before .before .pre in
-    none-takes (p .0) (p .1) _ _ (x .before .before .before .before .cost .ensures .0) (x .before .before .steps .ensures .0) _ (x .first-goal .ensures) (c .before .enum-told .given .1)
+    (none-takes (p .0) (p .1) _ _ (x .before .before .before .before .cost .ensures .0) (x .before .before .steps .ensures .0) _ (x .first-goal .ensures) (c .before .before .enum-told .given .1), p .2)
 
 returns : tie.Need-returns
 returns c =
     let x = c .before .before .before in
     let p = x .before .before .before .before .before .before .before .before .pre in
-    goal-ends (p .0) (p .1) _ _ (x .before .before .before .before .cost .ensures .0) (x .before .before .steps .ensures .0) _ (x .first-goal .ensures) _ (c .before .g .given .1)
+    (goal-ends (p .0) (p .1) _ _ (x .before .before .before .before .cost .ensures .0) (x .before .before .steps .ensures .0) _ (x .first-goal .ensures) _ (c .before .g .given .1), p .2)
 
 pub turn-at-spec : {M : Type 1} → statement M
 turn-at-spec =
