@@ -2,6 +2,9 @@
 pub mod Padding
 pub mod Rows
 pub mod Dead
+pub mod NumbersLaws
 pub mod Lent
-pub mod NamedLaws
+pub mod Questions
+pub mod Entries
 pub mod MemoLaws
+pub mod Preparing

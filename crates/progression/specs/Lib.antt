@@ -1,3 +1,3 @@
 pub mod Padded
-pub mod Named
-pub mod Memo
+pub mod Numbers
+pub mod Workspace

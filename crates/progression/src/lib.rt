@@ -4,7 +4,7 @@ use job::access;
 ghost use mathlib.Core.Path.{_≡_};
 ghost use mathlib.Core.Option.{none, some};
 ghost use Prim.Native.Nat.{_+_, _≤_, _<_};
-ghost use lib.ListN.{take, replicate};
+ghost use lib.ListN.{take};
 ghost use Rattle.model.specs.declared.Verdict.the-variants.{Fine};
 ghost use Rattle.model.specs.logic.Parts.{partsOf};
 ghost use Rattle.model.specs.logic.Progression.{closing};
@@ -12,11 +12,11 @@ ghost use Rattle.model.specs.job.Layout.{constraintCount, hintCount, formulaAt,
 ghost use Rattle.model.specs.job.Decoding.{jobVerdict};
 ghost use Rattle.model.specs.search.Node.{residuals, progressedAll, closingAll, someDead, meetAll};
 ghost use Rattle.progression.specs.Padded.{padded};
-ghost use Rattle.progression.specs.Memo.{Memo};
+ghost use Rattle.progression.specs.Workspace.{Workspace, Blank};
 
 mod section; // section.rt: the formula in one section
-mod named; // named.rt: what a formula names
-mod memo; // memo.rt: what residuals leave, kept
+mod numbers; // numbers.rt: the numbers after a code
+mod memo; // memo.rt: what residuals leave, worked out once
 mod row; // row.rt: the formulas in neighbouring sections
 
 // What the constraints leave after the first world, in which no action was made.
@@ -38,10 +38,10 @@ pub fn hints_first(job: &[u8], state: u64) -> [u64; 8]
     row::first(job, from, count, state)
 }
 
-// Readies a memo of zeros for a job.
-pub fn prepare(job: &[u8], work: &mut [u64; 8224])
-    requires { ⌜ (jobVerdict (now job) ≡ Fine) × (now work ≡ replicate 8224 0) ⌝ }
-    ensures { λ _. ⌜ Memo (now (job .entry)) (now (work .exit)) ⌝ }
+// Makes zeros of any length the workspace of a job. Where a caller lends few words or none, each residual is worked out anew.
+pub fn prepare(job: &[u8], work: &mut [u64])
+    requires { ⌜ (jobVerdict (now job) ≡ Fine) × Blank (now work) ⌝ }
+    ensures { λ _. ⌜ Workspace (now (job .entry)) (now (work .exit)) ⌝ }
 {
     memo::prepare(job, work);
 }
@@ -49,14 +49,14 @@ pub fn prepare(job: &[u8], work: &mut [u64; 8224])
 // What the constraints' residuals leave after a world.
 pub fn constraints_next(
     job: &[u8],
-    work: &mut [u64; 8224],
+    work: &mut [u64],
     rs: [u64; 8],
     state: u64,
     action: u8,
 ) -> [u64; 8]
-    requires { ⌜ (jobVerdict (now job) ≡ Fine) × (action < 64) × Memo (now job) (now work) ⌝ }
+    requires { ⌜ (jobVerdict (now job) ≡ Fine) × (action < 64) × Workspace (now job) (now work) ⌝ }
     ensures { λ r. ⌜ (r ≡ padded (progressedAll (jobOf (now (job .entry)) .constraints) (take (constraintCount (now (job .entry))) rs)
-        (record { state = state; made = some action }))) × Memo (now (job .entry)) (now (work .exit)) ⌝ }
+        (record { state = state; made = some action }))) × Workspace (now (job .entry)) (now (work .exit)) ⌝ }
 {
     let count = access::wide(access::constraint_count(job));
     if count == 0 {
@@ -68,14 +68,14 @@ pub fn constraints_next(
 // What the hints' residuals leave after a world.
 pub fn hints_next(
     job: &[u8],
-    work: &mut [u64; 8224],
+    work: &mut [u64],
     rs: [u64; 8],
     state: u64,
     action: u8,
 ) -> [u64; 8]
-    requires { ⌜ (jobVerdict (now job) ≡ Fine) × (action < 64) × Memo (now job) (now work) ⌝ }
+    requires { ⌜ (jobVerdict (now job) ≡ Fine) × (action < 64) × Workspace (now job) (now work) ⌝ }
     ensures { λ r. ⌜ (r ≡ padded (progressedAll (jobOf (now (job .entry)) .hints) (take (hintCount (now (job .entry))) rs)
-        (record { state = state; made = some action }))) × Memo (now (job .entry)) (now (work .exit)) ⌝ }
+        (record { state = state; made = some action }))) × Workspace (now (job .entry)) (now (work .exit)) ⌝ }
 {
     let from = 1 + access::wide(access::constraint_count(job));
     let count = access::wide(access::hint_count(job));
@@ -90,19 +90,22 @@ pub fn closes(job: &[u8], i: usize, r: u64, state: u64) -> bool
     requires { ⌜ (jobVerdict (now job) ≡ Fine) × (i < constraintCount (now job) + hintCount (now job)) ⌝ }
     ensures { λ b. ⌜ b ≡ closing (partsOf (formulaAt (now (job .entry)) (1 + i))) r (record { state = state; made = none }) ⌝ }
 {
+    if section::is_settled(r) {
+        return r != 0;
+    }
     section::closing(job, 1 + i, r, state)
 }
 
 // Whether the residuals of all constraints are true of the closing world.
-pub fn constraints_close(job: &[u8], rs: [u64; 8], state: u64) -> bool
-    requires { ⌜ jobVerdict (now job) ≡ Fine ⌝ }
-    ensures { λ b. ⌜ b ≡ closingAll (jobOf (now (job .entry)) .constraints) (take (constraintCount (now (job .entry))) rs)
-        (record { state = state; made = none }) ⌝ }
+pub fn constraints_close(job: &[u8], work: &mut [u64], rs: [u64; 8], state: u64) -> bool
+    requires { ⌜ (jobVerdict (now job) ≡ Fine) × Workspace (now job) (now work) ⌝ }
+    ensures { λ b. ⌜ (b ≡ closingAll (jobOf (now (job .entry)) .constraints) (take (constraintCount (now (job .entry))) rs)
+        (record { state = state; made = none })) × Workspace (now (job .entry)) (now (work .exit)) ⌝ }
 {
     let count = access::wide(access::constraint_count(job));
     let mut i = 0;
     while i < count {
-        if !closes(job, i, rs[i], state) {
+        if !memo::closing(job, work, 1 + i, rs[i], state) {
             return false;
         }
         i += 1;

@@ -1,94 +1,159 @@
-// What a residual leaves, kept in a memo that the caller lends: it is worked out again only where the memo does not have it.
+// The memo of a workspace: what a residual leaves is worked out only where no entry has it.
 use super::section;
 use job::access;
 ghost use mathlib.Core.Path.{_≡_};
-ghost use mathlib.Core.Option.{some};
-ghost use Prim.Native.Nat.{_+_, _*_, _≤_, _<_};
-ghost use lib.ListN.{getD, replicate};
+ghost use mathlib.Core.Bool.{true};
+ghost use mathlib.Core.Option.{none, some};
+ghost use Prim.Native.Nat.{_+_, _*_, _-_, _≤_, _<_};
+ghost use lib.Bits.{bitAnd};
+ghost use lib.ListN.{length, getD};
 ghost use Rattle.model.specs.declared.Verdict.the-variants.{Fine};
-ghost use Rattle.model.specs.Bits.{bit};
+ghost use Rattle.model.specs.Bits.{bit, digit};
 ghost use Rattle.model.specs.logic.Formula.{choose};
 ghost use Rattle.model.specs.logic.Parts.{partsOf};
-ghost use Rattle.model.specs.logic.Progression.{progressed};
+ghost use Rattle.model.specs.logic.Progression.{progressed, closing};
 ghost use Rattle.model.specs.job.Layout.{pairCount, formulaAt};
 ghost use Rattle.model.specs.job.Decoding.{jobVerdict};
-ghost use Rattle.progression.specs.Named.{Names};
-ghost use Rattle.progression.specs.Memo.{Memo, written};
+ghost use Rattle.progression.specs.Workspace.{Workspace, Blank, written, asks};
 
-// The action if it is among those named, else 255.
-fn seen(actions: u64, action: u8) -> u8
-    requires { ⌜ action < 64 ⌝ }
-    ensures { λ r. ⌜ r ≡ choose (bit actions action) action 255 ⌝ }
+// Under so many words there is no room for an entry.
+const LEAST: usize = 36;
+
+// What an entry is asked for: a section and an action in one number, a residual, and the facts that the formula names.
+pub struct Question {
+    pub key: u64,
+    pub residual: u64,
+    pub facts: u64,
+}
+
+// The action if the formula in section i names it, else 255.
+fn named_action(work: &[u64], i: usize, action: u8) -> u8
+    requires { ⌜ (36 ≤ length (now work)) × (1 ≤ i) × (i < 17) × (action < 64) ⌝ }
+    ensures { λ r. ⌜ r ≡ choose (bit (getD (now (work .entry)) (2 * i - 1) 0) action) action 255 ⌝ }
 {
-    if bits::bit_at(actions, action) {
+    if bits::bit_at(work[2 * i - 1], action) {
         action
     } else {
         255
     }
 }
 
-fn key_of(i: usize, made: u8) -> u64
-    requires { ⌜ i < 17 ⌝ }
-    ensures { λ r. ⌜ r ≡ 256 * i + made ⌝ }
+// What is asked of the formula in section i; `made` is the action, 255 or 254.
+fn asked(work: &[u64], i: usize, made: u8, r: u64, state: u64) -> Question
+    requires { ⌜ (36 ≤ length (now work)) × (1 ≤ i) × (i < 17) ⌝ }
+    ensures { λ q. ⌜ q ≡ record { key = 256 * i + made; residual = r; facts = bitAnd state (getD (now (work .entry)) (2 * i - 2) 0) } ⌝ }
 {
-    256 * (i as u64) + (made as u64)
+    Question {
+        key: 256 * (i as u64) + (made as u64),
+        residual: r,
+        facts: state & work[2 * i - 2],
+    }
 }
 
-// The number of the entry for a key, a residual and facts: any will do.
-fn entry_of(key: u64, r: u64, facts: u64) -> usize
-    ensures { λ e. ⌜ e < 2048 ⌝ }
+fn digit_of(b: bool) -> u64
+    ensures { λ r. ⌜ r ≡ digit b ⌝ }
 {
-    let a = (r % 4294967296) * 2654435769;
-    let b = (r >> 32) * 2246822519;
-    let c = (facts % 4294967296) * 3266489917;
-    let d = (facts >> 32) * 668265263;
-    let e = (key % 4294967296) * 2869860233;
+    if b { 1 } else { 0 }
+}
+
+// A number that differs for most questions. Products of 32 bits are used, since one of 64 bits could overflow.
+fn hash(q: Question) -> usize
+    ensures { λ h. ⌜ h < 65536 ⌝ }
+{
+    let a = (q.residual % 4294967296) * 2654435769;
+    let b = (q.residual >> 32) * 2246822519;
+    let c = (q.facts % 4294967296) * 3266489917;
+    let d = (q.facts >> 32) * 668265263;
+    let e = (q.key % 4294967296) * 2869860233;
     let h = a ^ b ^ c ^ d ^ e;
-    ((h >> 21) % 2048) as usize
+    ((h >> 16) % 65536) as usize
 }
 
-fn put(work: &mut [u64; 8224], at: usize, key: u64, r: u64, facts: u64, x: u64)
-    requires { ⌜ at + 4 ≤ 8224 ⌝ }
-    ensures { λ _. ⌜ now (work .exit) ≡ written (now (work .entry)) at key r facts x ⌝ }
+// The number of the entry for a question, in so many words.
+fn entry_of(words: usize, q: Question) -> usize
+    requires { ⌜ (36 ≤ words) × (words ≤ 65536) ⌝ }
+    ensures { λ e. ⌜ 36 + 4 * e ≤ words ⌝ }
 {
-    work[at] = key;
-    work[at + 1] = r;
-    work[at + 2] = facts;
+    let count = (words - 32) / 4;
+    hash(q) * count / 65536
+}
+
+// Whether the entry at a place is that of a question.
+fn is_entry(work: &[u64], at: usize, q: Question) -> bool
+    requires { ⌜ at + 4 ≤ length (now work) ⌝ }
+    ensures { λ r. ⌜ (r ≡ true → asks (now (work .entry)) at q) ⌝ }
+{
+    if work[at] == q.key {
+        if work[at + 1] == q.residual {
+            return work[at + 2] == q.facts;
+        }
+    }
+    false
+}
+
+fn put(work: &mut [u64], at: usize, q: Question, x: u64)
+    requires { ⌜ at + 4 ≤ length (now work) ⌝ }
+    ensures { λ _. ⌜ now (work .exit) ≡ written (now (work .entry)) at q x ⌝ }
+{
+    work[at] = q.key;
+    work[at + 1] = q.residual;
+    work[at + 2] = q.facts;
     work[at + 3] = x;
 }
 
 // What a residual of the formula in section i leaves after a world.
-pub fn next(job: &[u8], work: &mut [u64; 8224], i: usize, r: u64, state: u64, action: u8) -> u64
-    requires { ⌜ (jobVerdict (now job) ≡ Fine) × (1 ≤ i) × (i < pairCount (now job)) × (action < 64) × Memo (now job) (now work) ⌝ }
+pub fn next(job: &[u8], work: &mut [u64], i: usize, r: u64, state: u64, action: u8) -> u64
+    requires { ⌜ (jobVerdict (now job) ≡ Fine) × (1 ≤ i) × (i < pairCount (now job)) × (action < 64) × Workspace (now job) (now work) ⌝ }
     ensures { λ x. ⌜ (x ≡ progressed 6 (partsOf (formulaAt (now (job .entry)) i)) r (record { state = state; made = some action }))
-        × Memo (now (job .entry)) (now (work .exit)) ⌝ }
+        × Workspace (now (job .entry)) (now (work .exit)) ⌝ }
 {
-    if r == 0 {
-        return 0;
-    }
-    if r == 0xffff_ffff_ffff_ffff {
+    if section::is_settled(r) {
         return r;
     }
-    let facts = state & work[2 * i - 2];
-    let key = key_of(i, seen(work[2 * i - 1], action));
-    let at = 32 + 4 * entry_of(key, r, facts);
-    if work[at] == key {
-        if work[at + 1] == r {
-            if work[at + 2] == facts {
-                return work[at + 3];
-            }
-        }
+    if work.len() < LEAST {
+        return section::next(job, i, r, state, action);
+    }
+    let made = named_action(work, i, action);
+    let q = asked(work, i, made, r, state);
+    let at = 32 + 4 * entry_of(work.len(), q);
+    if is_entry(work, at, q) {
+        return work[at + 3];
     }
     let x = section::next(job, i, r, state, action);
-    put(work, at, key, r, facts, x);
+    put(work, at, q, x);
     x
 }
 
-// Writes down what each formula names, in a memo with no entry yet.
-pub fn prepare(job: &[u8], work: &mut [u64; 8224])
-    requires { ⌜ (jobVerdict (now job) ≡ Fine) × (now work ≡ replicate 8224 0) ⌝ }
-    ensures { λ _. ⌜ Memo (now (job .entry)) (now (work .exit)) ⌝ }
+// Whether a residual of the formula in section i is true of the closing world.
+pub fn closing(job: &[u8], work: &mut [u64], i: usize, r: u64, state: u64) -> bool
+    requires { ⌜ (jobVerdict (now job) ≡ Fine) × (1 ≤ i) × (i < pairCount (now job)) × Workspace (now job) (now work) ⌝ }
+    ensures { λ b. ⌜ (b ≡ closing (partsOf (formulaAt (now (job .entry)) i)) r (record { state = state; made = none }))
+        × Workspace (now (job .entry)) (now (work .exit)) ⌝ }
 {
+    if section::is_settled(r) {
+        return r != 0;
+    }
+    if work.len() < LEAST {
+        return section::closing(job, i, r, state);
+    }
+    let q = asked(work, i, 254, r, state);
+    let at = 32 + 4 * entry_of(work.len(), q);
+    if is_entry(work, at, q) {
+        return work[at + 3] == 1;
+    }
+    let b = section::closing(job, i, r, state);
+    put(work, at, q, digit_of(b));
+    b
+}
+
+// Writes down what each formula names, if there is room for an entry.
+pub fn prepare(job: &[u8], work: &mut [u64])
+    requires { ⌜ (jobVerdict (now job) ≡ Fine) × Blank (now work) ⌝ }
+    ensures { λ _. ⌜ Workspace (now (job .entry)) (now (work .exit)) ⌝ }
+{
+    if work.len() < LEAST {
+        return;
+    }
     let count = access::pair_count(job);
     let mut i = 1;
     while i < count {

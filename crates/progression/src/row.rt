@@ -10,7 +10,7 @@ ghost use Rattle.model.specs.job.Layout.{pairCount};
 ghost use Rattle.model.specs.job.Decoding.{jobVerdict};
 ghost use Rattle.model.specs.search.Node.{residuals, progressedAll};
 ghost use Rattle.progression.specs.Padded.{padded, formulasFrom};
-ghost use Rattle.progression.specs.Memo.{Memo};
+ghost use Rattle.progression.specs.Workspace.{Workspace};
 
 // What the formulas leave after the first world.
 pub fn first(job: &[u8], from: usize, count: usize, state: u64) -> [u64; 8]
@@ -30,7 +30,7 @@ pub fn first(job: &[u8], from: usize, count: usize, state: u64) -> [u64; 8]
 // What their residuals leave after a world.
 pub fn next(
     job: &[u8],
-    work: &mut [u64; 8224],
+    work: &mut [u64],
     from: usize,
     count: usize,
     rs: [u64; 8],
@@ -38,9 +38,9 @@ pub fn next(
     action: u8,
 ) -> [u64; 8]
     requires { ⌜ (jobVerdict (now job) ≡ Fine) × (1 ≤ from) × (from + count ≤ pairCount (now job)) × (count ≤ 8) × (action < 64)
-        × Memo (now job) (now work) ⌝ }
+        × Workspace (now job) (now work) ⌝ }
     ensures { λ r. ⌜ (r ≡ padded (progressedAll (formulasFrom (now (job .entry)) from count) (take count rs)
-        (record { state = state; made = some action }))) × Memo (now (job .entry)) (now (work .exit)) ⌝ }
+        (record { state = state; made = some action }))) × Workspace (now (job .entry)) (now (work .exit)) ⌝ }
 {
     let mut left = [0u64; 8];
     let mut i = 0;

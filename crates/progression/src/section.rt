@@ -1,15 +1,22 @@
 // The formula in section i of an accepted job: the section is lent on to the evaluator.
-use super::named;
+use super::numbers;
 use job::access;
 ghost use mathlib.Core.Path.{_≡_};
 ghost use mathlib.Core.Option.{none, some};
 ghost use Prim.Native.Nat.{_≤_, _<_};
 ghost use Rattle.model.specs.declared.Verdict.the-variants.{Fine};
 ghost use Rattle.model.specs.logic.Parts.{partsOf};
-ghost use Rattle.model.specs.logic.Progression.{residual, progressed, closing};
+ghost use Rattle.model.specs.logic.Names.{Names};
+ghost use Rattle.model.specs.logic.Progression.{settled, residual, progressed, closing};
 ghost use Rattle.model.specs.job.Layout.{pairCount, formulaAt};
 ghost use Rattle.model.specs.job.Decoding.{jobVerdict};
-ghost use Rattle.progression.specs.Named.{Names};
+
+// Whether a residual is the same at every setting of its carried parts: such a one stays as it is.
+pub fn is_settled(r: u64) -> bool
+    ensures { λ b. ⌜ b ≡ settled 6 r ⌝ }
+{
+    r == 0 || r == 0xffff_ffff_ffff_ffff
+}
 
 // What the formula leaves after the first world.
 pub fn first(job: &[u8], i: usize, state: u64) -> u64
@@ -54,7 +61,7 @@ pub fn names(job: &[u8], i: usize) -> Named
 {
     let start = access::section_offset(job, i);
     let end = start + access::section_length(job, i);
-    let facts = named::behind(&job[start..end], 3);
-    let actions = named::behind(&job[start..end], 4);
+    let facts = numbers::after(&job[start..end], 3);
+    let actions = numbers::after(&job[start..end], 4);
     Named { facts, actions }
 }

@@ -6,4 +6,3 @@ pub mod Walks
 pub mod Upwards
 pub mod Settings
 pub mod Answers
-pub mod Constants

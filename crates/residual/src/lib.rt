@@ -211,17 +211,11 @@ pub fn first(s: &[u8], state: u64) -> u64
     v.table
 }
 
-// What a residual leaves after a world. One that is the same at every setting stays as it is.
+// What a residual leaves after a world.
 pub fn next(s: &[u8], r: u64, state: u64, action: u8) -> u64
     requires { ⌜ Ready (parsed 64 64 (now s) 0) × (action < 64) ⌝ }
     ensures { λ x. ⌜ x ≡ progressedOf (parsed 64 64 (now (s .entry)) 0) r (record { state = state; made = some action }) ⌝ }
 {
-    if r == 0 {
-        return 0;
-    }
-    if r == 0xffff_ffff_ffff_ffff {
-        return r;
-    }
     let mut tables = [0u64; 6];
     let m = Moment {
         state,

@@ -1,5 +1,5 @@
--- The parts' tables, put for the unknowns of a residual, give what it leaves; one that is the same at every setting stays.
-use mathlib.Core.Path.{_≡_, sym, ap, _∙_, subst⁻¹}
+-- The parts' tables, put for the unknowns of a residual, give what it leaves.
+use mathlib.Core.Path.{_≡_, ap, _∙_, subst⁻¹}
 use mathlib.Core.Option.{Option, some}
 use mathlib.Core.List.{List}
 use Prim.Native.Nat.{ℕ, _<_}
@@ -9,41 +9,27 @@ use Rattle.bits.specs.Tables.{Upward, substituted}
 use Rattle.residual.specs.Node.{madeBy}
 use Rattle.residual.specs.Residual.{progressedOf}
 use Rattle.residual.proofs.Answers.{ready-few, ready-upward, next-answers}
-use Rattle.residual.proofs.Constants.{dead-stays, true-stays}
 use Rattle.residual.proofs.next.Statement.{statement}
 use Rattle.residual.proofs.next.Tie as tie
 
 made-is : (action : ℕ) → action < 64 → madeBy action ≡ some action
 made-is action h = rw (lt-ltb action 64 h)
 
-returns : tie.Need-returns
-returns c =
-    let d = c .before .before in
-    let a = d .args in
-    sym (ap (λ (r : ℕ). progressedOf (parsed 64 64 (a .s .now) 0) r (record { state = a .state; made = some (a .action) })) (c .if1 .taken) ∙ dead-stays (parsed 64 64 (a .s .now) 0) (d .pre .0) _)
-
-returns-2 : tie.Need-returns-2
-returns-2 c =
-    let d = c .before .before .before in
-    let a = d .args in
-    c .if2 .taken
-    ∙ sym (ap (λ (r : ℕ). progressedOf (parsed 64 64 (a .s .now) 0) r (record { state = a .state; made = some (a .action) })) (c .if2 .taken) ∙ true-stays (parsed 64 64 (a .s .now) 0) (d .pre .0) _)
-
 evaluate-requires : tie.Need-evaluate-requires
-evaluate-requires c κs = let d = c .before .before .before .before in ready-few (parsed 64 64 (d .args .s .now) 0) (d .pre .0)
+evaluate-requires c κs = let d = c .before .before in ready-few (parsed 64 64 (d .args .s .now) 0) (d .pre .0)
 
 substitute-requires : tie.Need-substitute-requires
 substitute-requires c κs =
-    let d = c .before .before .before .before .before in
+    let d = c .before .before .before in
     subst⁻¹ (λ (x : List ℕ). Upward 6 x) (c .evaluate .ensures .1) (ready-upward _ _ (parsed 64 64 (d .args .s .now) 0) (d .pre .0))
 
-returns-3 : tie.Need-returns-3
-returns-3 c =
-    let d = c .before .before .before .before .before .before in
+returns : tie.Need-returns
+returns c =
+    let d = c .before .before .before .before in
     let a = d .args in
     c .substitute .ensures ∙ ap (λ (x : List ℕ). substituted 6 x (a .r)) (c .before .evaluate .ensures .1)
     ∙ next-answers _ (parsed 64 64 (a .s .now) 0) (d .pre .0) (a .r)
     ∙ ap (λ (m : Option ℕ). progressedOf (parsed 64 64 (a .s .now) 0) (a .r) (record { state = a .state; made = m })) (made-is (a .action) (d .pre .1))
 
 pub next-spec : {M : Type 1} → statement M
-next-spec = tie.close (tie.spec returns returns-2 evaluate-requires substitute-requires returns-3)
+next-spec = tie.close (tie.spec evaluate-requires substitute-requires returns)

@@ -1,4 +1,4 @@
--- What stands right behind the codes 03 and 04 in the section has all that the formula names.
+-- The numbers after the codes 03 and 04 in the section have all that the formula names.
 use native.Mathlib.Omega.{arith}
 use Rattle.job.proofs.Accepted.{accepted-laid}
 use Rattle.progression.proofs.Lent.{lent-named}
@@ -12,18 +12,18 @@ section-offset-requires c κs = accepted-laid _ (c .before .pre .0) .pair _ (c .
 section-length-requires : tie.Need-section-length-requires
 section-length-requires c κs = let d = c .before .before in accepted-laid _ (d .pre .0) .pair _ (d .pre .2)
 
-part-behind-end : tie.Need-part-behind-end
-part-behind-end c = let d = c .before .before .before in omega (arith, accepted-laid _ (d .pre .0) .section (d .args .i) (d .pre .2))
+part-after-end : tie.Need-part-after-end
+part-after-end c = let d = c .before .before .before in omega (arith, accepted-laid _ (d .pre .0) .section (d .args .i) (d .pre .2))
 
-part-behind-end-2 : tie.Need-part-behind-end-2
-part-behind-end-2 c = let d = c .before .before .before .before .before in omega (arith, accepted-laid _ (d .pre .0) .section (d .args .i) (d .pre .2))
+part-after-end-2 : tie.Need-part-after-end-2
+part-after-end-2 c = let d = c .before .before .before .before .before in omega (arith, accepted-laid _ (d .pre .0) .section (d .args .i) (d .pre .2))
 
 returns : tie.Need-returns
 returns c =
     let b = c .before .before in
     let d = b .before .before .before .before .before in
     lent-named _ (d .pre .0) _ (d .pre .1) (d .pre .2) (b .before .before .before .section-offset .ensures .0) (b .before .before .section-length .ensures .0) _ _
-    (b .behind .ensures) (c .behind2 .ensures)
+    (b .after .ensures) (c .after2 .ensures)
 
 pub names-spec : {M : Type 1} → statement M
 names-spec =
@@ -34,10 +34,10 @@ names-spec =
     (λ c. search needs)
     (λ c. search needs)
     (λ c. search needs)
-    part-behind-end
+    part-after-end
     (λ c κs. search needs)
     (λ c. search needs)
     (λ c. search needs)
-    part-behind-end-2
+    part-after-end-2
     (λ c κs. search needs)
     returns)

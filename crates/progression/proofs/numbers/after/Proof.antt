@@ -1,21 +1,19 @@
--- The numbers behind the bytes passed are in the set: the invariant.
+-- The numbers after the bytes passed are in the set: the invariant.
 use borrow.Author.Needs.{needs}
 use native.Mathlib.Omega.{arith}
-use mathlib.Core.Path.{_≡_}
-use mathlib.Core.Bool.{true}
 use mathlib.Core.Logic.{⊎-elim}
-use Prim.Native.Nat.{ℕ, _+_, _-_, _%_, _≤_, _<_}
-use lib.ListN.{length, getD}
-use Rattle.model.specs.Bits.{bit}
-use Rattle.progression.proofs.NamedLaws.{one-more, none-more}
-use Rattle.progression.proofs.named.behind.Statement.{statement}
-use Rattle.progression.proofs.named.behind.Tie as tie
-use Rattle.progression.proofs.named.behind.Reads as reads
-use Rattle.progression.proofs.named.behind.Lts as lts
+use Prim.Native.Nat.{_-_, _≤_}
+use lib.ListN.{length}
+use Rattle.progression.specs.Numbers.{AfterIn}
+use Rattle.progression.proofs.NumbersLaws.{one-more, none-more}
+use Rattle.progression.proofs.numbers.after.Statement.{statement}
+use Rattle.progression.proofs.numbers.after.Tie as tie
+use Rattle.progression.proofs.numbers.after.Reads as reads
+use Rattle.progression.proofs.numbers.after.Lts as lts
 
 abbrev Inv-loop : tie.InvT-loop
 Inv-loop s code found₀ i₀ found i =
-    (1 ≤ i) × ((p : ℕ) → p + 1 < i → getD s p 0 ≡ code → bit found (getD s (p + 1) 0 % 64) ≡ true)
+    (1 ≤ i) × AfterIn i code s found
 
 abbrev μ-loop : tie.MeasureT-loop
 μ-loop s code found₀ i₀ found i = length s - i
@@ -57,8 +55,8 @@ loop-again c =
 returns : tie.Need-returns Inv-loop μ-loop
 returns c = λ p h e. c .before .loop .inv .1 p (omega arith) e
 
-pub behind-spec : {M : Type 1} → statement M
-behind-spec =
+pub after-spec : {M : Type 1} → statement M
+after-spec =
     tie.close
     (tie.spec
     Inv-loop

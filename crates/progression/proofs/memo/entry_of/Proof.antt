@@ -1,0 +1,21 @@
+-- A share of the entries is one of them.
+use native.Mathlib.Omega.{arith}
+use Prim.Native.Nat.{ℕ, _-_, _*_, _/_, _<_}
+use native.Mathlib.Nat.{mul-lt-mul-of-pos-right}
+use borrow.Author.Needs.{needs}
+use Rattle.progression.proofs.Entries.{share-lt}
+use Rattle.progression.proofs.memo.entry_of.Statement.{statement}
+use Rattle.progression.proofs.memo.entry_of.Tie as tie
+
+mul-result : tie.Need-mul-result
+mul-result c =
+    let h : c .hash .result * ((c .before .args .words - 32) / 4) < 65536 * ((c .before .args .words - 32) / 4) =
+    mul-lt-mul-of-pos-right (c .hash .ensures) (omega (arith, c .before .pre)) in
+    omega (arith, c .before .pre)
+
+returns : tie.Need-returns
+returns c =
+    omega (arith, c .before .pre, share-lt (c .hash .result) ((c .before .args .words - 32) / 4) (c .hash .ensures) (omega (arith, c .before .pre)))
+
+pub entry-of-spec : {M : Type 1} → statement M
+entry-of-spec = tie.close (tie.spec (λ c. search needs) (λ c κs. search needs) mul-result returns)
