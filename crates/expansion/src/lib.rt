@@ -10,7 +10,7 @@ use task::Key;
 ghost use Prim.Native.Nat.{_<_};
 ghost use Rattle.model.specs.job.Layout.{constraintCount};
 ghost use Rattle.table.specs.Slots.{slotAt};
-ghost use Rattle.progression.specs.Memo.{Memo};
+ghost use Rattle.progression.specs.Workspace.{Workspace};
 ghost use Rattle.nodes.specs.Meaning.{nodeIs, Clean};
 ghost use Rattle.dijkstra.specs.Search.{arrive, follow, expand};
 ghost use Rattle.held.specs.Held.{sys, heldIs, heldIn};
@@ -27,7 +27,7 @@ pub enum Grown {
 // An arrival at the node of slot j, which is held. A taken slot stays; a lesser key replaces, an equal one merges.
 fn relax(
     job: &[u8],
-    work: &mut [u64; 8224],
+    work: &mut [u64],
     t: &mut [u8],
     n: usize,
     i: usize,
@@ -36,8 +36,8 @@ fn relax(
     node: [u64; 9],
     j: usize,
 )
-    requires { ⌜ Arrives (now job) n (now t) i from a × (j < n) × Memo (now job) (now work) ⌝ }
-    ensures { λ _. ⌜ Relaxes (now (job .entry)) n (now (t .entry)) i from a node j (now (t .exit)) × Memo (now (job .entry)) (now (work .exit)) ⌝ }
+    requires { ⌜ Arrives (now job) n (now t) i from a × (j < n) × Workspace (now job) (now work) ⌝ }
+    ensures { λ _. ⌜ Relaxes (now (job .entry)) n (now (t .entry)) i from a node j (now (t .exit)) × Workspace (now (job .entry)) (now (work .exit)) ⌝ }
 {
     if slots::is_taken(t, j) {
         return;
@@ -62,7 +62,7 @@ fn relax(
 // An arrival at a node, which is looked up.
 fn arrive(
     job: &[u8],
-    work: &mut [u64; 8224],
+    work: &mut [u64],
     t: &mut [u8],
     n: usize,
     places: usize,
@@ -71,10 +71,10 @@ fn arrive(
     a: u8,
     node: [u64; 9],
 ) -> Grown
-    requires { ⌜ Arriving (now job) places n (now t) i from a × Clean (constraintCount (now job)) node × Memo (now job) (now work) ⌝ }
+    requires { ⌜ Arriving (now job) places n (now t) i from a × Clean (constraintCount (now job)) node × Workspace (now job) (now work) ⌝ }
     ensures { λ r. ⌜ Grew (now (job .entry)) places
         (arrive (sys (now (job .entry))) places (heldIn (now (job .entry)) n (now (t .entry))) (nodeIs (constraintCount (now (job .entry))) node)
-        (keyBy (now (job .entry)) from a) (hintsBy (now (job .entry)) from a node) i a) r (now (t .exit)) × Memo (now (job .entry)) (now (work .exit)) ⌝ }
+        (keyBy (now (job .entry)) from a) (hintsBy (now (job .entry)) from a node) i a) r (now (t .exit)) × Workspace (now (job .entry)) (now (work .exit)) ⌝ }
 {
     match lookup::find(t, n, node) {
         Found::At(j) => {
@@ -96,7 +96,7 @@ fn arrive(
 // One action, from slot i, whose record is that of `from`.
 fn follow(
     job: &[u8],
-    work: &mut [u64; 8224],
+    work: &mut [u64],
     t: &mut [u8],
     n: usize,
     places: usize,
@@ -104,9 +104,9 @@ fn follow(
     from: Slot,
     a: u8,
 ) -> Grown
-    requires { ⌜ Arriving (now job) places n (now t) i from a × Memo (now job) (now work) ⌝ }
+    requires { ⌜ Arriving (now job) places n (now t) i from a × Workspace (now job) (now work) ⌝ }
     ensures { λ r. ⌜ Grew (now (job .entry)) places
-        (follow (sys (now (job .entry))) places (heldIn (now (job .entry)) n (now (t .entry))) (heldIs (now (job .entry)) from) i a) r (now (t .exit)) × Memo (now (job .entry)) (now (work .exit)) ⌝ }
+        (follow (sys (now (job .entry))) places (heldIn (now (job .entry)) n (now (t .entry))) (heldIs (now (job .entry)) from) i a) r (now (t .exit)) × Workspace (now (job .entry)) (now (work .exit)) ⌝ }
 {
     let at = from.node;
     let to = nodes::next(job, work, at, a);
@@ -120,16 +120,16 @@ fn follow(
 // All actions in order. The slot is read once: being taken, it does not change while it is expanded.
 pub fn expand(
     job: &[u8],
-    work: &mut [u64; 8224],
+    work: &mut [u64],
     t: &mut [u8],
     n: usize,
     places: usize,
     i: usize,
 ) -> Grown
-    requires { ⌜ Busy (now job) places n (now t) i 0 × Memo (now job) (now work) ⌝ }
+    requires { ⌜ Busy (now job) places n (now t) i 0 × Workspace (now job) (now work) ⌝ }
     ensures { λ r. ⌜ Grew (now (job .entry)) places
         (expand (sys (now (job .entry))) places (heldIn (now (job .entry)) n (now (t .entry))) (heldIs (now (job .entry)) (slotAt (now (t .entry)) i)) i
-        (sys (now (job .entry)) .actions)) r (now (t .exit)) × Memo (now (job .entry)) (now (work .exit)) ⌝ }
+        (sys (now (job .entry)) .actions)) r (now (t .exit)) × Workspace (now (job .entry)) (now (work .exit)) ⌝ }
 {
     let from = slots::load(t, i);
     let count = access::action_count(job);

@@ -4,7 +4,7 @@ use task::Key;
 ghost use mathlib.Core.Path.{_≡_};
 ghost use Prim.Native.Nat.{_<_};
 ghost use Rattle.model.specs.job.Layout.{constraintCount, hintCount};
-ghost use Rattle.progression.specs.Memo.{Memo};
+ghost use Rattle.progression.specs.Workspace.{Workspace};
 ghost use Rattle.nodes.specs.Meaning.{Clean, Carries};
 ghost use Rattle.dijkstra.specs.Search.{tied};
 ghost use Rattle.held.specs.Held.{sys, heldIs, heldIn, Sound};
@@ -23,9 +23,9 @@ pub fn key_of(job: &[u8], from: Slot, a: u8) -> Key
 }
 
 // The hint residuals of an arrival at a node.
-fn hints_of(job: &[u8], work: &mut [u64; 8224], from: Slot, a: u8, node: [u64; 9]) -> [u64; 8]
-    requires { ⌜ Extends (now job) from a × Memo (now job) (now work) ⌝ }
-    ensures { λ r. ⌜ Carries (hintCount (now (job .entry))) (hintsBy (now (job .entry)) from a node) r × Memo (now (job .entry)) (now (work .exit)) ⌝ }
+fn hints_of(job: &[u8], work: &mut [u64], from: Slot, a: u8, node: [u64; 9]) -> [u64; 8]
+    requires { ⌜ Extends (now job) from a × Workspace (now job) (now work) ⌝ }
+    ensures { λ r. ⌜ Carries (hintCount (now (job .entry))) (hintsBy (now (job .entry)) from a node) r × Workspace (now (job .entry)) (now (work .exit)) ⌝ }
 {
     let hints = from.hints;
     nodes::next_hints(job, work, hints, node, a)
@@ -50,14 +50,14 @@ fn opened(node: [u64; 9], hints: [u64; 8], key: Key, parent: u64, action: u64, g
 // The slot of a new node.
 pub fn fresh(
     job: &[u8],
-    work: &mut [u64; 8224],
+    work: &mut [u64],
     i: usize,
     from: Slot,
     a: u8,
     node: [u64; 9],
 ) -> Slot
-    requires { ⌜ Extends (now job) from a × (i < 65536) × Clean (constraintCount (now job)) node × Memo (now job) (now work) ⌝ }
-    ensures { λ r. ⌜ Makes (now (job .entry)) (newcomer (now (job .entry)) i from a node node) r × Memo (now (job .entry)) (now (work .exit)) ⌝ }
+    requires { ⌜ Extends (now job) from a × (i < 65536) × Clean (constraintCount (now job)) node × Workspace (now job) (now work) ⌝ }
+    ensures { λ r. ⌜ Makes (now (job .entry)) (newcomer (now (job .entry)) i from a node node) r × Workspace (now (job .entry)) (now (work .exit)) ⌝ }
 {
     let key = key_of(job, from, a);
     let hints = hints_of(job, work, from, a, node);
@@ -68,7 +68,7 @@ pub fn fresh(
 // The slot of a node that is reached by a lesser key: the node is the old one, so it is a goal if that was.
 pub fn replaced(
     job: &[u8],
-    work: &mut [u64; 8224],
+    work: &mut [u64],
     i: usize,
     from: Slot,
     a: u8,
@@ -77,8 +77,8 @@ pub fn replaced(
     old: Slot,
 ) -> Slot
     requires { ⌜ Extends (now job) from a × (i < 65536) × Reaches (keyBy (now job) from a) key × Sound (now job) old
-        × Memo (now job) (now work) ⌝ }
-    ensures { λ r. ⌜ Makes (now (job .entry)) (newcomer (now (job .entry)) i from a node (old .node)) r × Memo (now (job .entry)) (now (work .exit)) ⌝ }
+        × Workspace (now job) (now work) ⌝ }
+    ensures { λ r. ⌜ Makes (now (job .entry)) (newcomer (now (job .entry)) i from a node (old .node)) r × Workspace (now (job .entry)) (now (work .exit)) ⌝ }
 {
     let hints = hints_of(job, work, from, a, node);
     let same = old.node;
@@ -88,7 +88,7 @@ pub fn replaced(
 // The slot of a node that is reached by an equal key: both ways' hints hold, and the way whose path comes first is kept.
 pub fn merged(
     job: &[u8],
-    work: &mut [u64; 8224],
+    work: &mut [u64],
     t: &[u8],
     n: usize,
     i: usize,
@@ -97,9 +97,9 @@ pub fn merged(
     node: [u64; 9],
     old: Slot,
 ) -> Slot
-    requires { ⌜ Arrives (now job) n (now t) i from a × Ties (now job) n (now t) from a old × Memo (now job) (now work) ⌝ }
+    requires { ⌜ Arrives (now job) n (now t) i from a × Ties (now job) n (now t) from a old × Workspace (now job) (now work) ⌝ }
     ensures { λ r. ⌜ Makes (now (job .entry)) (tied (sys (now (job .entry))) (heldIn (now (job .entry)) n (now (t .entry))) (heldIs (now (job .entry)) old)
-        (hintsBy (now (job .entry)) from a node) i a) r × Memo (now (job .entry)) (now (work .exit)) ⌝ }
+        (hintsBy (now (job .entry)) from a node) i a) r × Workspace (now (job .entry)) (now (work .exit)) ⌝ }
 {
     let held = old.hints;
     let hints = progression::met(held, hints_of(job, work, from, a, node));

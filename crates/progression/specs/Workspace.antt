@@ -4,17 +4,18 @@
 -- A key is 256 times the section, plus the action that was made, 255 for one that the formula does not name, 254 in the closing world. So no key
 -- is 0, and an entry of zeros is empty. A workspace of under 36 words has no entry, and nothing is written to it.
 use mathlib.Core.Path.{_≡_}
+use mathlib.Core.Bool.{Bool, false}
 use mathlib.Core.Option.{none}
 use Prim.Native.Nat.{ℕ, _+_, _*_, _-_, _/_, _%_, _≤_, _<_}
 use mathlib.Core.List.{List}
-use lib.Dec.{eqb}
+use lib.Dec.{eqb, leb}
 use lib.ListN.{length, getD, set, replicate}
 use Rattle.model.specs.Bits.{digit}
 use Rattle.model.specs.logic.Formula.{Formula, choose}
 use Rattle.model.specs.logic.Names.{Names}
 use Rattle.model.specs.logic.Parts.{partsOf}
 use Rattle.model.specs.logic.Progression.{progressed, closing}
-use Rattle.model.specs.job.Layout.{pairCount, formulaAt}
+use Rattle.model.specs.job.Layout.{pairCount, pairOffset, pairLength, formulaAt}
 use Rattle.residual.specs.Node.{madeBy}
 use Rattle.progression.specs.declared.memo.Question.{Question}
 
@@ -34,6 +35,14 @@ pub record Workspace (job work : List ℕ) : Type 0 where
   pub named : 36 ≤ length work → (i : ℕ) → 1 ≤ i → i < pairCount job → Names (getD work (2 * i - 2) 0) (getD work (2 * i - 1) 0) (formulaAt job i)
   pub right : (e : ℕ) → 36 + 4 * e ≤ length work
       → Entry job (getD work (32 + 4 * e) 0) (getD work (32 + 4 * e + 1) 0) (getD work (32 + 4 * e + 2) 0) (getD work (32 + 4 * e + 3) 0)
+
+-- the bytes of all formulas: they stand after the task
+abbrev pub formulaBytes : List ℕ → ℕ
+formulaBytes job = length job - (pairOffset job 0 + pairLength job 0)
+
+-- there are formulas, and in so many worlds they have enough bytes
+abbrev pub pays : List ℕ → ℕ → Bool
+pays job worlds = choose (eqb (formulaBytes job) 0) false (leb (4096 / formulaBytes job) worlds)
 
 -- as it is lent at first: zeros
 abbrev pub Blank : List ℕ → Type 0

@@ -12,7 +12,7 @@ ghost use Rattle.model.specs.job.Layout.{constraintCount, hintCount, formulaAt,
 ghost use Rattle.model.specs.job.Decoding.{jobVerdict};
 ghost use Rattle.model.specs.search.Node.{residuals, progressedAll, closingAll, someDead, meetAll};
 ghost use Rattle.progression.specs.Padded.{padded};
-ghost use Rattle.progression.specs.Workspace.{Workspace, Blank};
+ghost use Rattle.progression.specs.Workspace.{pays, Workspace, Blank};
 
 mod section; // section.rt: the formula in one section
 mod numbers; // numbers.rt: the numbers after a code
@@ -36,6 +36,19 @@ pub fn hints_first(job: &[u8], state: u64) -> [u64; 8]
     let from = 1 + access::wide(access::constraint_count(job));
     let count = access::wide(access::hint_count(job));
     row::first(job, from, count, state)
+}
+
+// Whether a memo pays where the formulas go through so many worlds. To clear it takes about as long as to walk 300 bytes of formulas, so the
+// worlds together must have more. Either answer is right: only time depends on it.
+pub fn pays(job: &[u8], worlds: usize) -> bool
+    requires { ⌜ jobVerdict (now job) ≡ Fine ⌝ }
+    ensures { λ b. ⌜ b ≡ pays (now (job .entry)) worlds ⌝ }
+{
+    let bytes = job.len() - (access::section_offset(job, 0) + access::section_length(job, 0));
+    if bytes == 0 {
+        return false;
+    }
+    4096 / bytes <= worlds
 }
 
 // Makes zeros of any length the workspace of a job. Where a caller lends few words or none, each residual is worked out anew.

@@ -12,7 +12,7 @@ ghost use lib.ListN.{length};
 ghost use Rattle.model.specs.declared.Verdict.the-variants.{Fine};
 ghost use Rattle.model.specs.exploration.Equations.{no-plan};
 ghost use Rattle.model.specs.job.Decoding.{jobVerdict};
-ghost use Rattle.progression.specs.Memo.{Memo};
+ghost use Rattle.progression.specs.Workspace.{Workspace};
 ghost use Rattle.dijkstra.specs.Search.{exhausted, turns};
 ghost use Rattle.held.specs.Held.{sys, heldIn};
 ghost use Rattle.held.specs.Running.{Idle};
@@ -27,9 +27,9 @@ fn refusal(job: &[u8], t: &[u8], n: usize) -> u8
 }
 
 // Takes the slot i, and follows its actions unless it is cut.
-fn take(job: &[u8], work: &mut [u64; 8224], t: &mut [u8], n: usize, places: usize, i: usize) -> Turn
-    requires { ⌜ Taking (now job) places n (now t) i × Memo (now job) (now work) ⌝ }
-    ensures { λ r. ⌜ Turned (now (job .entry)) places n (now (t .entry)) (now (t .exit)) r × Memo (now (job .entry)) (now (work .exit)) ⌝ }
+fn take(job: &[u8], work: &mut [u64], t: &mut [u8], n: usize, places: usize, i: usize) -> Turn
+    requires { ⌜ Taking (now job) places n (now t) i × Workspace (now job) (now work) ⌝ }
+    ensures { λ r. ⌜ Turned (now (job .entry)) places n (now (t .entry)) (now (t .exit)) r × Workspace (now (job .entry)) (now (work .exit)) ⌝ }
 {
     let cut = goals::slot_cut(job, t, i);
     slots::mark(t, i);
@@ -45,14 +45,14 @@ fn take(job: &[u8], work: &mut [u64; 8224], t: &mut [u8], n: usize, places: usiz
 // A turn at the slot i, the open one of the least key.
 fn turn_at(
     job: &[u8],
-    work: &mut [u64; 8224],
+    work: &mut [u64],
     t: &mut [u8],
     n: usize,
     places: usize,
     i: usize,
 ) -> Turn
-    requires { ⌜ Idle (now job) places n (now t) × Least (now job) n (now t) i × Memo (now job) (now work) ⌝ }
-    ensures { λ r. ⌜ Turned (now (job .entry)) places n (now (t .entry)) (now (t .exit)) r × Memo (now (job .entry)) (now (work .exit)) ⌝ }
+    requires { ⌜ Idle (now job) places n (now t) × Least (now job) n (now t) i × Workspace (now job) (now work) ⌝ }
+    ensures { λ r. ⌜ Turned (now (job .entry)) places n (now (t .entry)) (now (t .exit)) r × Workspace (now (job .entry)) (now (work .exit)) ⌝ }
 {
     let cost = slots::cost(t, i);
     let steps = slots::steps(t, i);
@@ -63,9 +63,9 @@ fn turn_at(
 }
 
 // One turn.
-fn turn(job: &[u8], work: &mut [u64; 8224], t: &mut [u8], n: usize, places: usize) -> Turn
-    requires { ⌜ Idle (now job) places n (now t) × Memo (now job) (now work) ⌝ }
-    ensures { λ r. ⌜ Turned (now (job .entry)) places n (now (t .entry)) (now (t .exit)) r × Memo (now (job .entry)) (now (work .exit)) ⌝ }
+fn turn(job: &[u8], work: &mut [u64], t: &mut [u8], n: usize, places: usize) -> Turn
+    requires { ⌜ Idle (now job) places n (now t) × Workspace (now job) (now work) ⌝ }
+    ensures { λ r. ⌜ Turned (now (job .entry)) places n (now (t .entry)) (now (t .exit)) r × Workspace (now (job .entry)) (now (work .exit)) ⌝ }
 {
     match lookup::least(t, n) {
         Found::At(i) => turn_at(job, work, t, n, places, i),
@@ -74,8 +74,8 @@ fn turn(job: &[u8], work: &mut [u64; 8224], t: &mut [u8], n: usize, places: usiz
 }
 
 // All turns, from a table with the start node in slot 0. Each takes one slot, so one turn more than there are places is enough.
-pub fn run(job: &[u8], work: &mut [u64; 8224], t: &mut [u8], places: usize) -> Ended
-    requires { ⌜ Idle (now job) places 1 (now t) × Memo (now job) (now work) ⌝ }
+pub fn run(job: &[u8], work: &mut [u64], t: &mut [u8], places: usize) -> Ended
+    requires { ⌜ Idle (now job) places 1 (now t) × Workspace (now job) (now work) ⌝ }
     ensures { λ r. ⌜ EndsAs (now (t .exit)) r (turns (sys (now (job .entry))) places (suc places) (heldIn (now (job .entry)) 1 (now (t .entry)))) ⌝ }
 {
     let mut n = 1;
