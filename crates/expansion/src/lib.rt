@@ -7,8 +7,10 @@ use table::Slot;
 use table::lookup;
 use table::slots;
 use task::Key;
+ghost use mathlib.Core.Path.{_≡_};
 ghost use Prim.Native.Nat.{_<_};
 ghost use Rattle.model.specs.job.Layout.{constraintCount};
+ghost use Rattle.model.specs.search.Node.{sameNumbers};
 ghost use Rattle.table.specs.Slots.{slotAt};
 ghost use Rattle.progression.specs.Workspace.{Workspace};
 ghost use Rattle.nodes.specs.Meaning.{nodeIs, Clean};
@@ -93,7 +95,21 @@ fn arrive(
     }
 }
 
-// One action, from slot i, whose record is that of `from`.
+// Whether two nodes are the same, all words compared. Most that differ do so in the first word, so the loop starts there.
+fn same_node(a: [u64; 9], b: [u64; 9]) -> bool
+    ensures { λ r. ⌜ r ≡ sameNumbers a b ⌝ }
+{
+    let mut j = 0;
+    while j < 9 {
+        if a[j] != b[j] {
+            return false;
+        }
+        j += 1;
+    }
+    true
+}
+
+// One action, from slot i, whose record is that of `from`. That slot is taken, so an arrival at its own node changes nothing.
 fn follow(
     job: &[u8],
     work: &mut [u64],
@@ -114,6 +130,9 @@ fn follow(
         return Grown::Held(n);
     }
     let node = to.node;
+    if same_node(node, at) {
+        return Grown::Held(n);
+    }
     arrive(job, work, t, n, places, i, from, a, node)
 }
 
