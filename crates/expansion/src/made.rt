@@ -61,7 +61,7 @@ pub fn fresh(
 {
     let key = key_of(job, from, a);
     let hints = hints_of(job, work, from, a, node);
-    let goal = nodes::is_goal(job, node);
+    let goal = nodes::is_goal(job, work, node);
     opened(node, hints, key, i as u64, a as u64, goal)
 }
 

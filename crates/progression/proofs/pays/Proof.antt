@@ -44,10 +44,10 @@ module _ (job : List ℕ) (worlds n : ℕ) (e : n ≡ formulaBytes job) where
       ∙ sym (ap (λ (b : Bool). choose b false (leb (4096 / formulaBytes job) worlds)) (ne-eqb (formulaBytes job) 0 (λ y. z (e ∙ y))))
 
 returns : tie.Need-returns
-returns c = none-pays _ _ _ (counted (c .before)) (c .if1 .taken)
+returns c = let a = c .before .before .before .before .args in none-pays (a .job .now) (a .worlds) _ (counted (c .before)) (c .if1 .taken)
 
 returns-2 : tie.Need-returns-2
-returns-2 c = some-pays _ _ _ (counted (c .before)) (c .if1 .left)
+returns-2 c = let a = c .before .before .before .before .args in some-pays (a .job .now) (a .worlds) _ (counted (c .before)) (c .if1 .left)
 
 pub pays-spec : {M : Type 1} → statement M
 pays-spec =
