@@ -38,8 +38,8 @@ fn through(job: &[u8], work: &mut [u64], steps: &[u8]) -> Validated
     end::judged(job, w)
 }
 
-// The same with a memo, where it pays.
-fn with_room(job: &[u8], steps: &[u8]) -> Validated
+// The same in a workspace of its own, which has a memo where that pays.
+fn in_workspace(job: &[u8], steps: &[u8]) -> Validated
     requires { ⌜ (jobVerdict (now job) ≡ Fine) × (length (now steps) ≤ 65535) ⌝ }
     ensures { λ r. ⌜ r ≡ answer (inTurn (length (now (steps .entry))) (stepVerdict (jobOf (now (job .entry))) (now (steps .entry))))
         (judged (jobOf (now (job .entry))) (walkOf (jobOf (now (job .entry))) (now (steps .entry)))) ⌝ }
@@ -50,7 +50,6 @@ fn with_room(job: &[u8], steps: &[u8]) -> Validated
         return through(job, &mut work, steps);
     }
     let mut none = [0u64; 0];
-    progression::prepare(job, &mut none);
     through(job, &mut none, steps)
 }
 
@@ -66,7 +65,7 @@ fn read_through(job: &[u8], steps: &[u8]) -> Validated
             place: 65535,
         });
     }
-    with_room(job, steps)
+    in_workspace(job, steps)
 }
 
 // The first refusal that applies to the job or to its step list, or the cost and the hints that are met. Any bytes may be lent.
