@@ -48,14 +48,7 @@ fn opened(node: [u64; 9], hints: [u64; 8], key: Key, parent: u64, action: u64, g
 }
 
 // The slot of a new node.
-pub fn fresh(
-    job: &[u8],
-    work: &mut [u64],
-    i: usize,
-    from: Slot,
-    a: u8,
-    node: [u64; 9],
-) -> Slot
+pub fn fresh(job: &[u8], work: &mut [u64], i: usize, from: Slot, a: u8, node: [u64; 9]) -> Slot
     requires { ⌜ Extends (now job) from a × (i < 65536) × Clean (constraintCount (now job)) node × Workspace (now job) (now work) ⌝ }
     ensures { λ r. ⌜ Makes (now (job .entry)) (newcomer (now (job .entry)) i from a node node) r × Workspace (now (job .entry)) (now (work .exit)) ⌝ }
 {

@@ -42,7 +42,7 @@ module _ (f a s : ℕ) where
         → answer φ (choose (bit a m) m 255) r (bitAnd s f) ≡ progressed 6 (partsOf φ) r (record { state = s; made = some m })
     answer-next m h =
         ap (λ (b : Bool). choose b (digit (closing (partsOf φ) r (record { state = bitAnd s f; made = none })))
-            (progressed 6 (partsOf φ) r (record { state = bitAnd s f; made = madeBy (choose (bit a m) m 255) })))
+        (progressed 6 (partsOf φ) r (record { state = bitAnd s f; made = madeBy (choose (bit a m) m 255) })))
         (ne-eqb (choose (bit a m) m 255) 254 (other (bit a m)))
         ∙ sym (progressed-alike f a _ _ (named-alike m h) φ names 6 r)
       where

@@ -79,13 +79,7 @@ pub fn constraints_next(
 }
 
 // What the hints' residuals leave after a world.
-pub fn hints_next(
-    job: &[u8],
-    work: &mut [u64],
-    rs: [u64; 8],
-    state: u64,
-    action: u8,
-) -> [u64; 8]
+pub fn hints_next(job: &[u8], work: &mut [u64], rs: [u64; 8], state: u64, action: u8) -> [u64; 8]
     requires { ⌜ (jobVerdict (now job) ≡ Fine) × (action < 64) × Workspace (now job) (now work) ⌝ }
     ensures { λ r. ⌜ (r ≡ padded (progressedAll (jobOf (now (job .entry)) .hints) (take (hintCount (now (job .entry))) rs)
         (record { state = state; made = some action }))) × Workspace (now (job .entry)) (now (work .exit)) ⌝ }

@@ -43,14 +43,7 @@ fn take(job: &[u8], work: &mut [u64], t: &mut [u8], n: usize, places: usize, i: 
 }
 
 // A turn at the slot i, the open one of the least key.
-fn turn_at(
-    job: &[u8],
-    work: &mut [u64],
-    t: &mut [u8],
-    n: usize,
-    places: usize,
-    i: usize,
-) -> Turn
+fn turn_at(job: &[u8], work: &mut [u64], t: &mut [u8], n: usize, places: usize, i: usize) -> Turn
     requires { ⌜ Idle (now job) places n (now t) × Least (now job) n (now t) i × Workspace (now job) (now work) ⌝ }
     ensures { λ r. ⌜ Turned (now (job .entry)) places n (now (t .entry)) (now (t .exit)) r × Workspace (now (job .entry)) (now (work .exit)) ⌝ }
 {
