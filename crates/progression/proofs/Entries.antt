@@ -10,7 +10,9 @@ use lib.Seq.{getD-set-same, getD-set-other}
 use Rattle.model.specs.logic.Names.{Names}
 use Rattle.model.specs.job.Layout.{pairCount, formulaAt}
 use Rattle.progression.specs.declared.memo.Question.{Question}
-use Rattle.progression.specs.Workspace.{answer, Entry, Workspace, written, asks}
+use Rattle.progression.specs.declared.memo.Recalled.{Recalled}
+use Rattle.progression.specs.declared.memo.Recalled.the-variants.{Answer}
+use Rattle.progression.specs.Workspace.{answer, Entry, Workspace, written, asks, Recalls, Remembers}
 
 -- a share of so many parts of 65,536
 pub share-lt : (h count : ℕ) → h < 65536 → 0 < count → h * count / 65536 < count
@@ -51,6 +53,14 @@ module _ (w : List ℕ) (at : ℕ) (q : Question) (x : ℕ) where
     word-answer : getD (written w at q x) (at + 3) 0 ≡ x
     word-answer = getD-set-same w3 (at + 3) x 0 (simp length-set (omega arith))
 
+-- An entry that is that of a question says its answer.
+pub recalled-at : (w : List ℕ) (q : Question) (at e : ℕ) → at ≡ 32 + 4 * e → 36 + 4 * e ≤ length w → asks w at q → Recalls w q (Answer (getD w (at + 3) 0))
+recalled-at w q at e d h a = (e, h, subst (λ (n : ℕ). asks w n q) d a, ap (λ (n : ℕ). getD w (n + 3) 0) d)
+
+-- what was asked by the entry at a place
+abbrev pub questionAt : List ℕ → ℕ → Question
+questionAt w at = record { key = getD w at 0; residual = getD w (at + 1) 0; facts = getD w (at + 2) 0 }
+
 module _ (job : List ℕ) where
   -- four words that are those of a right entry
   entry-by : {k r s x k′ r′ s′ x′ : ℕ} → k′ ≡ k → r′ ≡ r → s′ ≡ s → x′ ≡ x → Entry job k r s x → Entry job k′ r′ s′ x′
@@ -65,14 +75,15 @@ module _ (job : List ℕ) where
       let em : m ≡ q .key % 256 = omega arith in
       t ∙ (λ j. answer (formulaAt job (ei j)) (em j) (q .residual) (q .facts))
 
-  module _ {w : List ℕ} (work : Workspace job w) (few : pairCount job ≤ 17) where
-    -- An entry that is found has the answer.
-    pub entry-found : (i m : ℕ) (q : Question) (e : ℕ) → 1 ≤ i → m < 256 → q .key ≡ 256 * i + m → 36 + 4 * e ≤ length w → asks w (32 + 4 * e) q
-        → getD w (32 + 4 * e + 3) 0 ≡ answer (formulaAt job i) m (q .residual) (q .facts)
-    entry-found i m q e p l k h f =
+  module _ {w : List ℕ} (work : Workspace job w) (few : pairCount job ≤ 17) (room : 40 ≤ length w) where
+    -- An answer that is recalled is right.
+    pub recalled-right : (i m : ℕ) (q : Question) (r : Recalled) (x : ℕ) → 1 ≤ i → m < 256 → q .key ≡ 256 * i + m → Recalls w q r → r ≡ Answer x
+        → x ≡ answer (formulaAt job i) m (q .residual) (q .facts)
+    recalled-right i m q r x p l k h c =
+        let g = subst (Recalls w q) c h in
         let ei : q .key / 256 ≡ i = omega arith in
         let em : q .key % 256 ≡ m = omega arith in
-        entry-by (sym (f .0)) (sym (f .1)) (sym (f .2)) refl (work .right e h) (omega arith)
+        g .3 ∙ entry-by (sym (g .2 .0)) (sym (g .2 .1)) (sym (g .2 .2)) refl (work .right room (g .0) (g .1)) (omega arith)
         ∙ (λ j. answer (formulaAt job (ei j)) (em j) (q .residual) (q .facts))
 
     -- An entry that is right can be written.
@@ -96,7 +107,7 @@ module _ (job : List ℕ) where
       other : (d : ℕ) → (d ≡ e → ⊥) → 36 + 4 * d ≤ length w → Here d
       other d n l =
           entry-by (word (32 + 4 * d) (omega arith) (omega arith)) (word (32 + 4 * d + 1) (omega arith) (omega arith))
-          (word (32 + 4 * d + 2) (omega arith) (omega arith)) (word (32 + 4 * d + 3) (omega arith) (omega arith)) (work .right d l)
+          (word (32 + 4 * d + 2) (omega arith) (omega arith)) (word (32 + 4 * d + 3) (omega arith) (omega arith)) (work .right room d l)
         where
           word : (j : ℕ) → 32 + 4 * d ≤ j → j < 36 + 4 * d → getD v j 0 ≡ getD w j 0
           word j f g = elsewhere w at q x j (λ c. n (omega arith)) (λ c. n (omega arith)) (λ c. n (omega arith)) (λ c. n (omega arith))
@@ -116,6 +127,24 @@ module _ (job : List ℕ) where
       entry-written = record {
         short = omega (arith, same-length, work .short);
         named = λ g i p l. subst₂ (λ (f a : ℕ). Names f a (formulaAt job i))
-            (sym (before (2 * i - 2) (omega arith))) (sym (before (2 * i - 1) (omega arith))) (work .named (omega (arith, same-length)) i p l);
-        right = all-right;
+            (sym (before (2 * i - 2) (omega arith))) (sym (before (2 * i - 1) (omega arith))) (work .named room i p l);
+        right = λ g. all-right;
       }
+
+-- A right answer can be kept in entry e, what was there going to the next.
+pub remembered : (w : List ℕ) (e : ℕ) (q : Question) (x : ℕ) → 40 + 4 * e ≤ length w
+    → Remembers w q x (written (written w (32 + 4 * e + 4) (questionAt w (32 + 4 * e)) (getD w (32 + 4 * e + 3) 0)) (32 + 4 * e) q x)
+remembered w e q x h job work few t =
+    entry-written job
+    (subst (λ (n : ℕ). Workspace job (written w n old x₀)) next
+    (entry-written job work few (omega arith) (e + 1) old x₀ (omega arith) (work .right (omega arith) e (omega arith))))
+    few (simp length-set (omega arith)) e q x (simp length-set (omega arith)) t
+  where
+    old : Question
+    old = questionAt w (32 + 4 * e)
+
+    x₀ : ℕ
+    x₀ = getD w (32 + 4 * e + 3) 0
+
+    next : 32 + 4 * (e + 1) ≡ 32 + 4 * e + 4
+    next = omega arith

@@ -15,9 +15,11 @@ use Rattle.model.specs.logic.Parts.{partsOf}
 use Rattle.model.specs.logic.Progression.{progressed, closing}
 use Rattle.model.specs.job.Layout.{pairCount, formulaAt}
 use Rattle.progression.specs.declared.memo.Question.{Question}
-use Rattle.progression.specs.Workspace.{answer, Workspace, written, asks}
+use Rattle.progression.specs.declared.memo.Recalled.{Recalled}
+use Rattle.progression.specs.declared.memo.Recalled.the-variants.{Answer}
+use Rattle.progression.specs.Workspace.{answer, Workspace, Recalls, Remembers}
 use Rattle.progression.proofs.Questions.{answer-next, answer-closing}
-use Rattle.progression.proofs.Entries.{entry-found, entry-made, entry-written}
+use Rattle.progression.proofs.Entries.{recalled-right, entry-made}
 
 -- a digit tells its truth
 digit-is : (b : Bool) → eqb (digit b) 1 ≡ b
@@ -25,11 +27,10 @@ unfolding digit
 digit-is true = refl
 digit-is false = refl
 
-module _ (job w : List ℕ) (work : Workspace job w) (few : pairCount job ≤ 17) (i : ℕ) (first : 1 ≤ i) (last : i < pairCount job)
-    (e : ℕ) (room : 36 + 4 * e ≤ length w) (r s made : ℕ) (q : Question)
-    (asked : q ≡ record { key = 256 * i + made; residual = r; facts = bitAnd s (getD w (2 * i - 2) 0) }) where
+module _ (job w : List ℕ) (work : Workspace job w) (few : pairCount job ≤ 17) (room : 40 ≤ length w) (i : ℕ) (first : 1 ≤ i) (last : i < pairCount job)
+    (r s made : ℕ) (q : Question) (asked : q ≡ record { key = 256 * i + made; residual = r; facts = bitAnd s (getD w (2 * i - 2) 0) }) where
   names : Names (getD w (2 * i - 2) 0) (getD w (2 * i - 1) 0) (formulaAt job i)
-  names = work .named (omega arith) i first last
+  names = work .named room i first last
 
   -- an answer to the question is one to its parts
   answer-asked : answer (formulaAt job i) made (q .residual) (q .facts) ≡ answer (formulaAt job i) made r (bitAnd s (getD w (2 * i - 2) 0))
@@ -38,11 +39,11 @@ module _ (job w : List ℕ) (work : Workspace job w) (few : pairCount job ≤ 17
   key-asked : q .key ≡ 256 * i + made
   key-asked = ap (λ (p : Question). p .key) asked
 
-  found : made < 256 → asks w (32 + 4 * e) q → getD w (32 + 4 * e + 3) 0 ≡ answer (formulaAt job i) made r (bitAnd s (getD w (2 * i - 2) 0))
-  found l f = entry-found job work few i made q e first l key-asked room f ∙ answer-asked
+  found : made < 256 → (c : Recalled) (x : ℕ) → Recalls w q c → c ≡ Answer x → x ≡ answer (formulaAt job i) made r (bitAnd s (getD w (2 * i - 2) 0))
+  found l c x h e = recalled-right job work few room i made q c x first l key-asked h e ∙ answer-asked
 
-  kept : made < 256 → (x : ℕ) → x ≡ answer (formulaAt job i) made r (bitAnd s (getD w (2 * i - 2) 0)) → Workspace job (written w (32 + 4 * e) q x)
-  kept l x t = entry-written job work few e q x room (entry-made job i made q l key-asked (t ∙ sym answer-asked))
+  kept : made < 256 → (x : ℕ) → x ≡ answer (formulaAt job i) made r (bitAnd s (getD w (2 * i - 2) 0)) → {v : List ℕ} → Remembers w q x v → Workspace job v
+  kept l x t h = h job work few (entry-made job i made q l key-asked (t ∙ sym answer-asked))
 
   -- ---- after an action
   module _ (m : ℕ) (h : m < 64) (is-made : made ≡ choose (bit (getD w (2 * i - 1) 0) m) m 255) where
@@ -59,12 +60,12 @@ module _ (job w : List ℕ) (work : Workspace job w) (few : pairCount job ≤ 17
         ap (λ (n : ℕ). answer (formulaAt job i) n r (bitAnd s (getD w (2 * i - 2) 0))) is-made
         ∙ answer-next (getD w (2 * i - 2) 0) (getD w (2 * i - 1) 0) s (formulaAt job i) names r m h
 
-    pub found-next : asks w (32 + 4 * e) q
-        → getD w (32 + 4 * e + 3) 0 ≡ progressed 6 (partsOf (formulaAt job i)) r (record { state = s; made = some m })
-    found-next f = found made-lt f ∙ next-asked
+    pub found-next : (c : Recalled) (x : ℕ) → Recalls w q c → c ≡ Answer x
+        → x ≡ progressed 6 (partsOf (formulaAt job i)) r (record { state = s; made = some m })
+    found-next c x g e = found made-lt c x g e ∙ next-asked
 
     pub kept-next : (x : ℕ) → x ≡ progressed 6 (partsOf (formulaAt job i)) r (record { state = s; made = some m })
-        → Workspace job (written w (32 + 4 * e) q x)
+        → {v : List ℕ} → Remembers w q x v → Workspace job v
     kept-next x t = kept made-lt x (t ∙ sym next-asked)
 
   -- ---- in the closing world
@@ -75,10 +76,10 @@ module _ (job w : List ℕ) (work : Workspace job w) (few : pairCount job ≤ 17
         ap (λ (n : ℕ). answer (formulaAt job i) n r (bitAnd s (getD w (2 * i - 2) 0))) is-closing
         ∙ answer-closing (getD w (2 * i - 2) 0) (getD w (2 * i - 1) 0) s (formulaAt job i) names r
 
-    pub found-closing : asks w (32 + 4 * e) q
-        → eqb (getD w (32 + 4 * e + 3) 0) 1 ≡ closing (partsOf (formulaAt job i)) r (record { state = s; made = none })
-    found-closing f = ap (λ (x : ℕ). eqb x 1) (found (omega arith) f ∙ closing-asked) ∙ digit-is _
+    pub found-closing : (c : Recalled) (x : ℕ) → Recalls w q c → c ≡ Answer x
+        → eqb x 1 ≡ closing (partsOf (formulaAt job i)) r (record { state = s; made = none })
+    found-closing c x g e = ap (λ (y : ℕ). eqb y 1) (found (omega arith) c x g e ∙ closing-asked) ∙ digit-is _
 
     pub kept-closing : (x : ℕ) (b : Bool) → x ≡ digit b → b ≡ closing (partsOf (formulaAt job i)) r (record { state = s; made = none })
-        → Workspace job (written w (32 + 4 * e) q x)
+        → {v : List ℕ} → Remembers w q x v → Workspace job v
     kept-closing x b d t = kept (omega arith) x (d ∙ ap digit t ∙ sym closing-asked)

@@ -23,11 +23,11 @@ zeros-at (suc n) (suc i) = zeros-at n i
 
 module _ {job : List ℕ} where
   -- Without room for an entry there is nothing to prepare.
-  pub small-workspace : (w : List ℕ) → length w < 36 → Workspace job w
+  pub small-workspace : (w : List ℕ) → length w < 40 → Workspace job w
   small-workspace w h = record {
     short = omega arith;
     named = λ g. absurd (omega arith);
-    right = λ e g. absurd (omega arith);
+    right = λ g. absurd (omega arith);
   }
 
   pub begun-none : (w : List ℕ) → Blank w → Begun job 1 w
@@ -38,7 +38,7 @@ module _ {job : List ℕ} where
   }
 
   -- one section more
-  pub begun-more : (w : List ℕ) (i f a : ℕ) → Begun job i w → 36 ≤ length w → 1 ≤ i → i < 17 → Names f a (formulaAt job i)
+  pub begun-more : (w : List ℕ) (i f a : ℕ) → Begun job i w → 40 ≤ length w → 1 ≤ i → i < 17 → Names f a (formulaAt job i)
       → Begun job (i + 1) (set (set w (2 * i - 2) f) (2 * i - 1) a)
   begun-more w i f a b room p q g = record {
     short = omega (arith, length-set v (2 * i - 1) a, length-set w (2 * i - 2) f, b .short);
@@ -72,7 +72,7 @@ module _ {job : List ℕ} where
   begun-workspace w i l b = record {
     short = b .short;
     named = λ g j p q. b .named j p (omega arith);
-    right = λ e q k. absurd (empty e k);
+    right = λ g e q k. absurd (empty e k);
   }
     where
       empty : (e : ℕ) → 0 < getD w (32 + 4 * e) 0 → ⊥

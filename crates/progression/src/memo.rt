@@ -14,10 +14,10 @@ ghost use Rattle.model.specs.logic.Parts.{partsOf};
 ghost use Rattle.model.specs.logic.Progression.{progressed, closing};
 ghost use Rattle.model.specs.job.Layout.{pairCount, formulaAt};
 ghost use Rattle.model.specs.job.Decoding.{jobVerdict};
-ghost use Rattle.progression.specs.Workspace.{Workspace, Blank, written, asks};
+ghost use Rattle.progression.specs.Workspace.{Workspace, Blank, written, asks, Recalls, Remembers};
 
-// Under so many words there is no room for an entry.
-const LEAST: usize = 36;
+// Under so many words there is no room for two entries.
+const LEAST: usize = 40;
 
 // What an entry is asked for: a section and an action in one number, a residual, and the facts that the formula names.
 pub struct Question {
@@ -26,9 +26,15 @@ pub struct Question {
     pub facts: u64,
 }
 
+// What the memo says to a question.
+pub enum Recalled {
+    Answer(u64),
+    Nothing,
+}
+
 // The action if the formula in section i names it, else 255.
 fn named_action(work: &[u64], i: usize, action: u8) -> u8
-    requires { ⌜ (36 ≤ length (now work)) × (1 ≤ i) × (i < 17) × (action < 64) ⌝ }
+    requires { ⌜ (40 ≤ length (now work)) × (1 ≤ i) × (i < 17) × (action < 64) ⌝ }
     ensures { λ r. ⌜ r ≡ choose (bit (getD (now (work .entry)) (2 * i - 1) 0) action) action 255 ⌝ }
 {
     if bits::bit_at(work[2 * i - 1], action) {
@@ -40,7 +46,7 @@ fn named_action(work: &[u64], i: usize, action: u8) -> u8
 
 // What is asked of the formula in section i; `made` is the action, 255 or 254.
 fn asked(work: &[u64], i: usize, made: u8, r: u64, state: u64) -> Question
-    requires { ⌜ (36 ≤ length (now work)) × (1 ≤ i) × (i < 17) ⌝ }
+    requires { ⌜ (40 ≤ length (now work)) × (1 ≤ i) × (i < 17) ⌝ }
     ensures { λ q. ⌜ q ≡ record { key = 256 * i + made; residual = r; facts = bitAnd state (getD (now (work .entry)) (2 * i - 2) 0) } ⌝ }
 {
     Question {
@@ -69,13 +75,13 @@ fn hash(q: Question) -> usize
     ((h >> 16) % 65536) as usize
 }
 
-// The number of the entry for a question, in so many words.
+// The first of the two entries that a question may be kept in, of those that so many words have room for.
 fn entry_of(words: usize, q: Question) -> usize
-    requires { ⌜ (36 ≤ words) × (words ≤ 65536) ⌝ }
-    ensures { λ e. ⌜ 36 + 4 * e ≤ words ⌝ }
+    requires { ⌜ (40 ≤ words) × (words ≤ 65536) ⌝ }
+    ensures { λ e. ⌜ 40 + 4 * e ≤ words ⌝ }
 {
-    let count = (words - 32) / 4;
-    hash(q) * count / 65536
+    let pairs = (words - 32) / 8;
+    2 * (hash(q) * pairs / 65536)
 }
 
 // Whether the entry at a place is that of a question.
@@ -91,6 +97,22 @@ fn is_entry(work: &[u64], at: usize, q: Question) -> bool
     false
 }
 
+// What entry e or the one after it says to a question.
+fn recall(work: &[u64], e: usize, q: Question) -> Recalled
+    requires { ⌜ 40 + 4 * e ≤ length (now work) ⌝ }
+    ensures { λ r. ⌜ Recalls (now (work .entry)) q r ⌝ }
+{
+    let first = 32 + 4 * e;
+    if is_entry(work, first, q) {
+        return Recalled::Answer(work[first + 3]);
+    }
+    let second = 36 + 4 * e;
+    if is_entry(work, second, q) {
+        return Recalled::Answer(work[second + 3]);
+    }
+    Recalled::Nothing
+}
+
 fn put(work: &mut [u64], at: usize, q: Question, x: u64)
     requires { ⌜ at + 4 ≤ length (now work) ⌝ }
     ensures { λ _. ⌜ now (work .exit) ≡ written (now (work .entry)) at q x ⌝ }
@@ -99,6 +121,22 @@ fn put(work: &mut [u64], at: usize, q: Question, x: u64)
     work[at + 1] = q.residual;
     work[at + 2] = q.facts;
     work[at + 3] = x;
+}
+
+// Keeps the answer to a question in entry e. What was there goes to the entry after it, so that of two that meet the later one stays.
+fn remember(work: &mut [u64], e: usize, q: Question, x: u64)
+    requires { ⌜ 40 + 4 * e ≤ length (now work) ⌝ }
+    ensures { λ _. ⌜ Remembers (now (work .entry)) q x (now (work .exit)) ⌝ }
+{
+    let at = 32 + 4 * e;
+    let old = Question {
+        key: work[at],
+        residual: work[at + 1],
+        facts: work[at + 2],
+    };
+    let answer = work[at + 3];
+    put(work, at + 4, old, answer);
+    put(work, at, q, x);
 }
 
 // What a residual of the formula in section i leaves after a world.
@@ -115,13 +153,15 @@ pub fn next(job: &[u8], work: &mut [u64], i: usize, r: u64, state: u64, action: 
     }
     let made = named_action(work, i, action);
     let q = asked(work, i, made, r, state);
-    let at = 32 + 4 * entry_of(work.len(), q);
-    if is_entry(work, at, q) {
-        return work[at + 3];
+    let e = entry_of(work.len(), q);
+    match recall(work, e, q) {
+        Recalled::Answer(x) => x,
+        Recalled::Nothing => {
+            let x = section::next(job, i, r, state, action);
+            remember(work, e, q, x);
+            x
+        }
     }
-    let x = section::next(job, i, r, state, action);
-    put(work, at, q, x);
-    x
 }
 
 // Whether a residual of the formula in section i is true of the closing world.
@@ -137,16 +177,18 @@ pub fn closing(job: &[u8], work: &mut [u64], i: usize, r: u64, state: u64) -> bo
         return section::closing(job, i, r, state);
     }
     let q = asked(work, i, 254, r, state);
-    let at = 32 + 4 * entry_of(work.len(), q);
-    if is_entry(work, at, q) {
-        return work[at + 3] == 1;
+    let e = entry_of(work.len(), q);
+    match recall(work, e, q) {
+        Recalled::Answer(x) => x == 1,
+        Recalled::Nothing => {
+            let b = section::closing(job, i, r, state);
+            remember(work, e, q, digit_of(b));
+            b
+        }
     }
-    let b = section::closing(job, i, r, state);
-    put(work, at, q, digit_of(b));
-    b
 }
 
-// Writes down what each formula names, if there is room for an entry.
+// Writes down what each formula names, if there is room for entries.
 pub fn prepare(job: &[u8], work: &mut [u64])
     requires { ⌜ (jobVerdict (now job) ≡ Fine) × Blank (now work) ⌝ }
     ensures { λ _. ⌜ Workspace (now (job .entry)) (now (work .exit)) ⌝ }

@@ -1,9 +1,8 @@
 -- A settled residual has its truth; an entry that is found says it; else it is worked out and written.
 use borrow.Author.Needs.{needs}
 use native.Mathlib.Omega.{arith}
-use mathlib.Core.Path.{_≡_, refl, sym, _∙_, subst⁻¹}
+use mathlib.Core.Path.{refl, sym, _∙_}
 use Rattle.model.specs.logic.Progression.{dead}
-use Rattle.progression.specs.Workspace.{Workspace}
 use Rattle.progression.proofs.Lent.{settled-closed, few-sections}
 use Rattle.progression.proofs.MemoLaws.{found-closing, kept-closing}
 use Rattle.progression.proofs.memo.closing.Statement.{statement}
@@ -11,19 +10,15 @@ use Rattle.progression.proofs.memo.closing.Tie as tie
 
 -- ---- places
 
--- where there is room for an entry, what stood at the start
+-- where there is room for entries, what stood at the start
 abbrev start : tie.Else2 → tie.Start
 start c = c .before .before .before .before .before
 
--- where the entry was looked at
-abbrev looked : tie.After-is-entry → tie.After-entry-of
-looked c = c .before .before
-
-abbrev asked : tie.After-entry-of → tie.After-asked
-asked c = c .before
-
 abbrev roomy : tie.After-asked → tie.Else2
 roomy c = c .before .before
+
+abbrev asked : tie.After-recall → tie.After-asked
+asked c = c .before .before .before
 
 -- ---- needs
 
@@ -40,11 +35,11 @@ asked-requires c κs =
 
 returns-3 : tie.Need-returns-3
 returns-3 c =
-    let l = looked (c .before .before) in
+    let l = c .before .before .before in
     let k = asked l in
     let s = start (roomy k) in (
-      found-closing _ _ (s .pre .3) (few-sections _ (s .pre .0)) _ (s .pre .1) (s .pre .2) (l .entry-of .result) (l .entry-of .ensures) _ _ 254
-          (k .asked .result) (k .asked .ensures) refl (c .before .before .is-entry .ensures (c .before .if3 .taken)),
+      found-closing _ _ (s .pre .3) (few-sections _ (s .pre .0)) (omega arith) _ (s .pre .1) (s .pre .2) _ _ 254 (k .asked .result) (k .asked .ensures)
+          refl (l .recall .result) _ (l .recall .ensures) (c .before .x .given .1),
       s .pre .3,
     )
 
@@ -53,13 +48,12 @@ returns-4 c =
     let p = c .before .before in
     let d = p .before in
     let x = d .before .before in
-    let l = looked (x .before .before) in
+    let l = x .before .before .before in
     let k = asked l in
     let s = start (roomy k) in (
       x .closing2 .ensures,
-      subst⁻¹ (Workspace (s .args .job .now)) (p .put .ensures)
-          (kept-closing _ _ (s .pre .3) (few-sections _ (s .pre .0)) _ (s .pre .1) (s .pre .2) (l .entry-of .result) (l .entry-of .ensures) _ _ 254
-          (k .asked .result) (k .asked .ensures) refl (d .digit-of .result) (x .closing2 .result) (d .digit-of .ensures) (x .closing2 .ensures)),
+      kept-closing _ _ (s .pre .3) (few-sections _ (s .pre .0)) (omega arith) _ (s .pre .1) (s .pre .2) _ _ 254 (k .asked .result) (k .asked .ensures)
+          refl (d .digit-of .result) (x .closing2 .result) (d .digit-of .ensures) (x .closing2 .ensures) (p .remember .ensures),
     )
 
 pub closing-spec : {M : Type 1} → statement M
@@ -72,16 +66,13 @@ closing-spec =
     (λ c. search needs)
     asked-requires
     (λ c κs. search needs)
-    (λ c. search needs)
-    (λ c. search needs)
     (λ c κs. search needs)
     (λ c. search needs)
     (λ c. search needs)
-    (λ c. search needs)
+    (λ c κs. search needs)
+    (λ c κs. search needs)
+    (λ c κs. search needs)
     (λ c. search needs)
     returns-3
-    (λ c κs. search needs)
-    (λ c κs. search needs)
-    (λ c κs. search needs)
     (λ c. search needs)
     returns-4)

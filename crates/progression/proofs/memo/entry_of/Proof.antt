@@ -1,4 +1,4 @@
--- A share of the entries is one of them.
+-- A share of the pairs of entries is one of them.
 use native.Mathlib.Omega.{arith}
 use Prim.Native.Nat.{ℕ, _-_, _*_, _/_, _<_}
 use native.Mathlib.Nat.{mul-lt-mul-of-pos-right}
@@ -9,13 +9,19 @@ use Rattle.progression.proofs.memo.entry_of.Tie as tie
 
 mul-result : tie.Need-mul-result
 mul-result c =
-    let h : c .hash .result * ((c .before .args .words - 32) / 4) < 65536 * ((c .before .args .words - 32) / 4) =
+    let h : c .hash .result * ((c .before .args .words - 32) / 8) < 65536 * ((c .before .args .words - 32) / 8) =
     mul-lt-mul-of-pos-right (c .hash .ensures) (omega (arith, c .before .pre)) in
     omega (arith, c .before .pre)
 
+-- the pair is one of those that there are
+pair-lt : (c : tie.After-hash) → c .hash .result * ((c .before .args .words - 32) / 8) / 65536 < (c .before .args .words - 32) / 8
+pair-lt c = share-lt (c .hash .result) ((c .before .args .words - 32) / 8) (c .hash .ensures) (omega (arith, c .before .pre))
+
+mul-result-2 : tie.Need-mul-result-2
+mul-result-2 c = omega (arith, c .before .pre, pair-lt c)
+
 returns : tie.Need-returns
-returns c =
-    omega (arith, c .before .pre, share-lt (c .hash .result) ((c .before .args .words - 32) / 4) (c .hash .ensures) (omega (arith, c .before .pre)))
+returns c = omega (arith, c .before .pre, pair-lt c)
 
 pub entry-of-spec : {M : Type 1} → statement M
-entry-of-spec = tie.close (tie.spec (λ c. search needs) (λ c κs. search needs) mul-result returns)
+entry-of-spec = tie.close (tie.spec (λ c. search needs) (λ c κs. search needs) mul-result mul-result-2 returns)

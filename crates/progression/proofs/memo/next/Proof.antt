@@ -1,10 +1,7 @@
 -- A settled residual stays; an entry that is found says what is left; else it is worked out and written.
 use borrow.Author.Needs.{needs}
 use native.Mathlib.Omega.{arith}
-use mathlib.Core.Path.{_≡_, sym, _∙_, subst⁻¹}
-use Prim.Native.Nat.{ℕ, _+_, _*_, _≤_, _<_}
-use lib.ListN.{length}
-use Rattle.progression.specs.Workspace.{Workspace}
+use mathlib.Core.Path.{sym, _∙_}
 use Rattle.progression.proofs.Lent.{settled-left, few-sections}
 use Rattle.progression.proofs.MemoLaws.{found-next, kept-next}
 use Rattle.progression.proofs.memo.next.Statement.{statement}
@@ -12,22 +9,18 @@ use Rattle.progression.proofs.memo.next.Tie as tie
 
 -- ---- places
 
--- where there is room for an entry, what stood at the start
+-- where there is room for entries, what stood at the start
 abbrev start : tie.Else2 → tie.Start
 start c = c .before .before .before .before .before
 
--- where the entry was looked at
-abbrev looked : tie.After-is-entry → tie.After-entry-of
-looked c = c .before .before
-
-abbrev asked : tie.After-entry-of → tie.After-asked
-asked c = c .before
+abbrev roomy : tie.After-named-action → tie.Else2
+roomy c = c .before .before
 
 abbrev made : tie.After-asked → tie.After-named-action
 made c = c .before .before
 
-abbrev roomy : tie.After-named-action → tie.Else2
-roomy c = c .before .before
+abbrev asked : tie.After-recall → tie.After-asked
+asked c = c .before .before .before
 
 -- ---- needs
 
@@ -48,12 +41,12 @@ asked-requires c κs =
 
 returns-3 : tie.Need-returns-3
 returns-3 c =
-    let l = looked (c .before .before) in
+    let l = c .before .before .before in
     let k = asked l in
     let n = made k in
     let s = start (roomy n) in (
-      found-next _ _ (s .pre .4) (few-sections _ (s .pre .0)) _ (s .pre .1) (s .pre .2) (l .entry-of .result) (l .entry-of .ensures) _ _ _
-          (k .asked .result) (k .asked .ensures) _ (s .pre .3) (n .named-action .ensures) (c .before .before .is-entry .ensures (c .before .if3 .taken)),
+      found-next _ _ (s .pre .4) (few-sections _ (s .pre .0)) (omega arith) _ (s .pre .1) (s .pre .2) _ _ _ (k .asked .result) (k .asked .ensures)
+          _ (s .pre .3) (n .named-action .ensures) (l .recall .result) _ (l .recall .ensures) (c .before .x .given .1),
       s .pre .4,
     )
 
@@ -61,14 +54,13 @@ returns-4 : tie.Need-returns-4
 returns-4 c =
     let p = c .before .before in
     let x = p .before .before in
-    let l = looked (x .before .before) in
+    let l = x .before .before .before in
     let k = asked l in
     let n = made k in
     let s = start (roomy n) in (
       x .next2 .ensures,
-      subst⁻¹ (Workspace (s .args .job .now)) (p .put .ensures)
-          (kept-next _ _ (s .pre .4) (few-sections _ (s .pre .0)) _ (s .pre .1) (s .pre .2) (l .entry-of .result) (l .entry-of .ensures) _ _ _
-          (k .asked .result) (k .asked .ensures) _ (s .pre .3) (n .named-action .ensures) (x .next2 .result) (x .next2 .ensures)),
+      kept-next _ _ (s .pre .4) (few-sections _ (s .pre .0)) (omega arith) _ (s .pre .1) (s .pre .2) _ _ _ (k .asked .result) (k .asked .ensures)
+          _ (s .pre .3) (n .named-action .ensures) (x .next2 .result) (x .next2 .ensures) (p .remember .ensures),
     )
 
 pub next-spec : {M : Type 1} → statement M
@@ -82,15 +74,12 @@ next-spec =
     named-action-requires
     asked-requires
     (λ c κs. search needs)
-    (λ c. search needs)
-    (λ c. search needs)
     (λ c κs. search needs)
     (λ c. search needs)
     (λ c. search needs)
-    (λ c. search needs)
+    (λ c κs. search needs)
+    (λ c κs. search needs)
     (λ c. search needs)
     returns-3
-    (λ c κs. search needs)
-    (λ c κs. search needs)
     (λ c. search needs)
     returns-4)
