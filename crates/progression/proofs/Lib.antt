@@ -5,6 +5,6 @@ pub mod Dead
 pub mod NumbersLaws
 pub mod Lent
 pub mod Questions
-pub mod Entries
+pub mod EntryLaws
 pub mod MemoLaws
 pub mod Preparing

@@ -14,12 +14,12 @@ use Rattle.model.specs.logic.Names.{Names}
 use Rattle.model.specs.logic.Parts.{partsOf}
 use Rattle.model.specs.logic.Progression.{progressed, closing}
 use Rattle.model.specs.job.Layout.{pairCount, formulaAt}
-use Rattle.progression.specs.declared.memo.Question.{Question}
-use Rattle.progression.specs.declared.memo.Recalled.{Recalled}
-use Rattle.progression.specs.declared.memo.Recalled.the-variants.{Answer}
+use Rattle.progression.specs.declared.entries.Question.{Question}
+use Rattle.progression.specs.declared.entries.Recalled.{Recalled}
+use Rattle.progression.specs.declared.entries.Recalled.the-variants.{Answer}
 use Rattle.progression.specs.Workspace.{answer, Workspace, Recalls, Remembers}
 use Rattle.progression.proofs.Questions.{answer-next, answer-closing}
-use Rattle.progression.proofs.Entries.{recalled-right, entry-made}
+use Rattle.progression.proofs.EntryLaws.{recalled-right, entry-made}
 
 -- a digit tells its truth
 digit-is : (b : Bool) → eqb (digit b) 1 ≡ b

@@ -17,9 +17,9 @@ use Rattle.model.specs.logic.Parts.{partsOf}
 use Rattle.model.specs.logic.Progression.{progressed, closing}
 use Rattle.model.specs.job.Layout.{pairCount, pairOffset, pairLength, formulaAt}
 use Rattle.residual.specs.Node.{madeBy}
-use Rattle.progression.specs.declared.memo.Question.{Question}
-use Rattle.progression.specs.declared.memo.Recalled.{Recalled}
-use Rattle.progression.specs.declared.memo.Recalled.the-variants.{Answer, Nothing}
+use Rattle.progression.specs.declared.entries.Question.{Question}
+use Rattle.progression.specs.declared.entries.Recalled.{Recalled}
+use Rattle.progression.specs.declared.entries.Recalled.the-variants.{Answer, Nothing}
 
 -- what a residual r of φ leaves in a state s after action m; where m is 254, whether it is true of the closing world
 abbrev pub answer : Formula → ℕ → ℕ → ℕ → ℕ

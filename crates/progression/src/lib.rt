@@ -16,6 +16,7 @@ ghost use Rattle.progression.specs.Workspace.{pays, Workspace, Blank};
 
 mod section; // section.rt: the formula in one section
 mod numbers; // numbers.rt: the numbers after a code
+mod entries; // entries.rt: the entries of a memo
 mod memo; // memo.rt: what residuals leave, worked out once
 mod row; // row.rt: the formulas in neighbouring sections
 

@@ -1,5 +1,4 @@
 // The numbers that stand after codes in the bytes of a formula.
-ghost use mathlib.Core.Path.{_≡_};
 ghost use Prim.Native.Nat.{_<_};
 ghost use Rattle.progression.specs.Numbers.{After};
 

@@ -1,6 +1,6 @@
 -- `closes` asks for the section of a formula, unless the residual is settled.
 use native.Mathlib.Omega.{arith}
-use mathlib.Core.Path.{_≡_, sym, _∙_}
+use mathlib.Core.Path.{sym, _∙_}
 use Rattle.job.proofs.Accepted.{accepted-laid}
 use Rattle.model.specs.logic.Progression.{dead}
 use Rattle.model.specs.job.Layout.{pairCount}

@@ -1,5 +1,5 @@
 -- One or zero, by the test.
-use mathlib.Core.Path.{_≡_, sym, ap}
+use mathlib.Core.Path.{sym, ap}
 use Rattle.model.specs.Bits.{digit}
 use Rattle.progression.proofs.memo.digit_of.Statement.{statement}
 use Rattle.progression.proofs.memo.digit_of.Tie as tie

@@ -1,5 +1,4 @@
 -- The numbers after the bytes passed are in the set: the invariant.
-use borrow.Author.Needs.{needs}
 use native.Mathlib.Omega.{arith}
 use mathlib.Core.Logic.{⊎-elim}
 use Prim.Native.Nat.{_-_, _≤_}

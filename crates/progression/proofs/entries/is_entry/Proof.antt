@@ -2,8 +2,8 @@
 use borrow.Author.Needs.{needs}
 use borrow.Author.Tests.{eqb-true}
 use mathlib.Core.Bool.{false≢true}
-use Rattle.progression.proofs.memo.is_entry.Statement.{statement}
-use Rattle.progression.proofs.memo.is_entry.Tie as tie
+use Rattle.progression.proofs.entries.is_entry.Statement.{statement}
+use Rattle.progression.proofs.entries.is_entry.Tie as tie
 
 returns : tie.Need-returns
 returns c = λ e. (c .before .before .before .before .before .if1 .taken, c .before .before .if2 .taken, eqb-true _ _ e)

@@ -2,8 +2,8 @@
 use native.Mathlib.Omega.{arith}
 use lib.ListN.{length-set}
 use borrow.Author.Needs.{needs}
-use Rattle.progression.proofs.memo.put.Statement.{statement}
-use Rattle.progression.proofs.memo.put.Tie as tie
+use Rattle.progression.proofs.entries.put.Statement.{statement}
+use Rattle.progression.proofs.entries.put.Tie as tie
 
 slice-write-work-2 : tie.Need-slice-write-work-2
 slice-write-work-2 c = simp length-set (omega (arith, c .pre))

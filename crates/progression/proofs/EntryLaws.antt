@@ -9,9 +9,9 @@ use lib.ListN.{length, getD, set, length-set}
 use lib.Seq.{getD-set-same, getD-set-other}
 use Rattle.model.specs.logic.Names.{Names}
 use Rattle.model.specs.job.Layout.{pairCount, formulaAt}
-use Rattle.progression.specs.declared.memo.Question.{Question}
-use Rattle.progression.specs.declared.memo.Recalled.{Recalled}
-use Rattle.progression.specs.declared.memo.Recalled.the-variants.{Answer}
+use Rattle.progression.specs.declared.entries.Question.{Question}
+use Rattle.progression.specs.declared.entries.Recalled.{Recalled}
+use Rattle.progression.specs.declared.entries.Recalled.the-variants.{Answer}
 use Rattle.progression.specs.Workspace.{answer, Entry, Workspace, written, asks, Recalls, Remembers}
 
 -- a share of so many parts of 65,536

@@ -1,11 +1,11 @@
 -- A share of the pairs of entries is one of them.
 use native.Mathlib.Omega.{arith}
-use Prim.Native.Nat.{ℕ, _-_, _*_, _/_, _<_}
+use Prim.Native.Nat.{_-_, _*_, _/_, _<_}
 use native.Mathlib.Nat.{mul-lt-mul-of-pos-right}
 use borrow.Author.Needs.{needs}
-use Rattle.progression.proofs.Entries.{share-lt}
-use Rattle.progression.proofs.memo.entry_of.Statement.{statement}
-use Rattle.progression.proofs.memo.entry_of.Tie as tie
+use Rattle.progression.proofs.EntryLaws.{share-lt}
+use Rattle.progression.proofs.entries.entry_of.Statement.{statement}
+use Rattle.progression.proofs.entries.entry_of.Tie as tie
 
 mul-result : tie.Need-mul-result
 mul-result c =

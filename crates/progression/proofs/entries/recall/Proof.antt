@@ -2,9 +2,9 @@
 use native.Mathlib.Omega.{arith}
 use Prim.Native.Nat.{_+_}
 use borrow.Author.Needs.{needs}
-use Rattle.progression.proofs.Entries.{recalled-at}
-use Rattle.progression.proofs.memo.recall.Statement.{statement}
-use Rattle.progression.proofs.memo.recall.Tie as tie
+use Rattle.progression.proofs.EntryLaws.{recalled-at}
+use Rattle.progression.proofs.entries.recall.Statement.{statement}
+use Rattle.progression.proofs.entries.recall.Tie as tie
 
 -- ---- places
 

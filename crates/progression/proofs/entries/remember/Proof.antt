@@ -1,13 +1,12 @@
 -- What was in the first entry goes to the second, and the answer to the first.
-use native.Mathlib.Omega.{arith}
-use mathlib.Core.Path.{_≡_, ap, _∙_, subst⁻¹}
+use mathlib.Core.Path.{ap, _∙_, subst⁻¹}
 use mathlib.Core.List.{List}
 use Prim.Native.Nat.{ℕ, _+_, _*_}
 use borrow.Author.Needs.{needs}
 use Rattle.progression.specs.Workspace.{written, Remembers}
-use Rattle.progression.proofs.Entries.{remembered}
-use Rattle.progression.proofs.memo.remember.Statement.{statement}
-use Rattle.progression.proofs.memo.remember.Tie as tie
+use Rattle.progression.proofs.EntryLaws.{remembered}
+use Rattle.progression.proofs.entries.remember.Statement.{statement}
+use Rattle.progression.proofs.entries.remember.Tie as tie
 
 -- ---- places
 
