@@ -5,7 +5,7 @@ ghost use Prim.Native.Nat.{_+_, _*_, _≤_, _<_};
 ghost use lib.ListN.{length};
 ghost use Rattle.progression.specs.Workspace.{written, asks, Recalls, Remembers};
 
-// What an entry is asked for: a section and an action in one number, a residual, and the facts that the formula names.
+// What is asked: a section and an action in one number, a residual, and of the state the facts that the formula names.
 pub struct Question {
     pub key: u64,
     pub residual: u64,
@@ -18,7 +18,7 @@ pub enum Recalled {
     Nothing,
 }
 
-// A number that differs for most questions. Products of 32 bits are used, since one of 64 bits could overflow.
+// A number that differs for most questions: halves times odd numbers of 32 bits, since a product with a whole word could overflow.
 fn hash(q: Question) -> usize
     ensures { λ h. ⌜ h < 65536 ⌝ }
 {
@@ -79,7 +79,7 @@ fn put(work: &mut [u64], at: usize, q: Question, x: u64)
     work[at + 3] = x;
 }
 
-// Keeps the answer to a question in entry e. What was there goes to the entry after it, so that of two that meet the later one stays.
+// Keeps the answer to a question in entry e. What was there goes to the entry after it, so that two questions which meet are both kept.
 pub fn remember(work: &mut [u64], e: usize, q: Question, x: u64)
     requires { ⌜ 40 + 4 * e ≤ length (now work) ⌝ }
     ensures { λ _. ⌜ Remembers (now (work .entry)) q x (now (work .exit)) ⌝ }

@@ -20,6 +20,9 @@ mod entries; // entries.rt: the entries of a memo
 mod memo; // memo.rt: what residuals leave, worked out once
 mod row; // row.rt: the formulas in neighbouring sections
 
+// The words of a workspace with a memo: 32, and 2,048 entries of four.
+pub const WORDS: usize = 8224;
+
 // What the constraints leave after the first world, in which no action was made.
 pub fn constraints_first(job: &[u8], state: u64) -> [u64; 8]
     requires { ⌜ jobVerdict (now job) ≡ Fine ⌝ }
@@ -39,8 +42,8 @@ pub fn hints_first(job: &[u8], state: u64) -> [u64; 8]
     row::first(job, from, count, state)
 }
 
-// Whether a memo pays where the formulas go through so many worlds. To clear it takes about as long as to walk 300 bytes of formulas, so the
-// worlds together must have more. Either answer is right: only time depends on it.
+// Whether a memo pays where the formulas go through so many worlds. Clearing it takes as long as walking some 300 bytes of formulas, so all worlds
+// together must have a multiple of that. Either answer is right: only time depends on it.
 pub fn pays(job: &[u8], worlds: usize) -> bool
     requires { ⌜ jobVerdict (now job) ≡ Fine ⌝ }
     ensures { λ b. ⌜ b ≡ pays (now (job .entry)) worlds ⌝ }

@@ -56,7 +56,7 @@ fn in_workspace(job: &[u8], t: &mut [u8], places: usize, node: [u64; 9]) -> Ende
     ensures { λ r. ⌜ EndsAs (now (t .exit)) r (searchIn (sys (now (job .entry))) places) ⌝ }
 {
     if progression::pays(job, places) {
-        let mut work = [0u64; 8224];
+        let mut work = [0u64; progression::WORDS];
         progression::prepare(job, &mut work);
         return from_start(job, &mut work, t, places, node);
     }

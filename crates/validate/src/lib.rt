@@ -45,7 +45,7 @@ fn in_workspace(job: &[u8], steps: &[u8]) -> Validated
         (judged (jobOf (now (job .entry))) (walkOf (jobOf (now (job .entry))) (now (steps .entry)))) ⌝ }
 {
     if progression::pays(job, steps.len()) {
-        let mut work = [0u64; 8224];
+        let mut work = [0u64; progression::WORDS];
         progression::prepare(job, &mut work);
         return through(job, &mut work, steps);
     }
