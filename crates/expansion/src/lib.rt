@@ -122,7 +122,8 @@ fn follow(
 ) -> Grown
     requires { ⌜ Arriving (now job) places n (now t) i from a × Workspace (now job) (now work) ⌝ }
     ensures { λ r. ⌜ Grew (now (job .entry)) places
-        (follow (sys (now (job .entry))) places (heldIn (now (job .entry)) n (now (t .entry))) (heldIs (now (job .entry)) from) i a) r (now (t .exit)) × Workspace (now (job .entry)) (now (work .exit)) ⌝ }
+        (follow (sys (now (job .entry))) places (heldIn (now (job .entry)) n (now (t .entry))) (heldIs (now (job .entry)) from) i a) r (now (t .exit))
+        × Workspace (now (job .entry)) (now (work .exit)) ⌝ }
 {
     let at = from.node;
     let to = nodes::next(job, work, at, a);

@@ -116,7 +116,9 @@ module _ (job : List ℕ) where
       all-right d l = go (decLt d e) (decLt e d)
         where
           here : Here e
-          here = entry-by (word-key w at q x (omega arith)) (word-residual w at q x (omega arith)) (word-facts w at q x (omega arith)) (word-answer w at q x (omega arith)) t
+          here =
+              entry-by (word-key w at q x (omega arith)) (word-residual w at q x (omega arith))
+              (word-facts w at q x (omega arith)) (word-answer w at q x (omega arith)) t
 
           go : Dec (d < e) → Dec (e < d) → Here d
           go (yes c) n = other d (λ i. omega arith) (omega (arith, same-length))

@@ -15,6 +15,16 @@ use Rattle.progression.specs.Workspace.{formulaBytes, pays}
 use Rattle.progression.proofs.pays.Statement.{statement}
 use Rattle.progression.proofs.pays.Tie as tie
 
+-- ---- places
+
+abbrev start : tie.After-section-length → tie.Start
+start c = c .before .before .before
+
+abbrev begins : tie.After-section-length → tie.After-section-offset
+begins c = c .before
+
+-- ---- needs
+
 section-offset-requires : tie.Need-section-offset-requires
 unfolding pairCount
 section-offset-requires c κs = accepted-laid _ (c .before .pre) .pair 0 (omega arith)
@@ -25,14 +35,12 @@ section-length-requires c κs = accepted-laid _ (c .before .before .pre) .pair 0
 
 sub-bytes : tie.Need-sub-bytes
 unfolding pairCount
-sub-bytes c = omega (arith, accepted-laid _ (c .before .before .before .pre) .section 0 (omega arith))
+sub-bytes c = omega (arith, accepted-laid _ (start c .pre) .section 0 (omega arith))
 
 -- what was counted
 counted : (c : tie.After-section-length)
-    → length (c .before .before .before .args .job .now) - (c .before .section-offset .result + c .section-length .result)
-    ≡ formulaBytes (c .before .before .before .args .job .now)
-counted c =
-    ap₂ (λ (o n : ℕ). length (c .before .before .before .args .job .now) - (o + n)) (c .before .section-offset .ensures .0) (c .section-length .ensures .0)
+    → length (start c .args .job .now) - (begins c .section-offset .result + c .section-length .result) ≡ formulaBytes (start c .args .job .now)
+counted c = ap₂ (λ (o n : ℕ). length (start c .args .job .now) - (o + n)) (begins c .section-offset .ensures .0) (c .section-length .ensures .0)
 
 module _ (job : List ℕ) (worlds n : ℕ) (e : n ≡ formulaBytes job) where
   none-pays : n ≡ 0 → false ≡ pays job worlds
@@ -44,10 +52,10 @@ module _ (job : List ℕ) (worlds n : ℕ) (e : n ≡ formulaBytes job) where
       ∙ sym (ap (λ (b : Bool). choose b false (leb (4096 / formulaBytes job) worlds)) (ne-eqb (formulaBytes job) 0 (λ y. z (e ∙ y))))
 
 returns : tie.Need-returns
-returns c = let a = c .before .before .before .before .args in none-pays (a .job .now) (a .worlds) _ (counted (c .before)) (c .if1 .taken)
+returns c = let a = start (c .before) .args in none-pays (a .job .now) (a .worlds) _ (counted (c .before)) (c .if1 .taken)
 
 returns-2 : tie.Need-returns-2
-returns-2 c = let a = c .before .before .before .before .args in some-pays (a .job .now) (a .worlds) _ (counted (c .before)) (c .if1 .left)
+returns-2 c = let a = start (c .before) .args in some-pays (a .job .now) (a .worlds) _ (counted (c .before)) (c .if1 .left)
 
 pub pays-spec : {M : Type 1} → statement M
 pays-spec =

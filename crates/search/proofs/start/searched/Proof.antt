@@ -69,7 +69,8 @@ returns-3 c =
     let w = c .before .before in
     let k = counted (w .before) in
     let s = start (first (alive k)) .args in
-    subst (λ (n : ℕ). EndsAs (w .in-workspace .last .1 .0) (w .in-workspace .result) (searchIn (sys (s .job .now)) n)) (k .capacity .ensures .0) (w .in-workspace .ensures)
+    subst (λ (n : ℕ). EndsAs (w .in-workspace .last .1 .0) (w .in-workspace .result) (searchIn (sys (s .job .now)) n))
+    (k .capacity .ensures .0) (w .in-workspace .ensures)
 
 pub searched-spec : {M : Type 1} → statement M
 searched-spec =
