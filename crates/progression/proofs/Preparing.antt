@@ -1,13 +1,14 @@
 -- Zeros become a workspace: what the formulas name is written down, section by section.
-use mathlib.Core.Path.{_≡_, refl, sym, ap, _∙_, subst, subst₂}
-use Prim.Native.Nat.{ℕ, zero, suc, _+_, _*_, _-_, _≤_, _<_}
+use mathlib.Core.Path.{_≡_, sym, ap, _∙_, subst, subst₂}
+use Prim.Native.Nat.{ℕ, _+_, _*_, _-_, _≤_, _<_}
 use native.Mathlib.Omega.{arith}
 use native.Mathlib.Decide.{decLt}
 use mathlib.Core.List.{List}
-use lib.ListN.{length, getD, set, replicate, length-set, length-replicate}
+use lib.ListN.{length, getD, set, length-set, length-replicate}
 use lib.Seq.{getD-set-same, getD-set-other}
 use Rattle.model.specs.logic.Names.{Names}
 use Rattle.model.specs.job.Layout.{pairCount, formulaAt}
+use Rattle.residual.proofs.Upwards.{zeros-at}
 use Rattle.progression.specs.Workspace.{Workspace, Blank}
 
 -- with no entry, and the names of the formulas before section i
@@ -15,11 +16,6 @@ pub record Begun (job : List ℕ) (i : ℕ) (w : List ℕ) : Type 0 where
   pub short : length w ≤ 65536
   pub named : (j : ℕ) → 1 ≤ j → j < i → Names (getD w (2 * j - 2) 0) (getD w (2 * j - 1) 0) (formulaAt job j)
   pub empty : (e : ℕ) → 32 ≤ e → getD w e 0 ≡ 0
-
-zeros-at : (n i : ℕ) → _≡_ {A = ℕ} (getD (replicate n 0) i 0) 0
-zeros-at zero i = refl
-zeros-at (suc n) zero = refl
-zeros-at (suc n) (suc i) = zeros-at n i
 
 module _ {job : List ℕ} where
   -- Without room for an entry there is nothing to prepare.
