@@ -58,15 +58,17 @@ static inline size_t write_job(const task *t, uint8_t *job) {
     return at;
 }
 
-/* always (not SYMBOL, or eventually (one of `count` facts)), in exactly `length` bytes: the facts are repeated, and false ends the list. It
- * stays open whatever happens. SYMBOL is a fact (code 3) or a step (code 4). */
+/* always (not SYMBOL, or eventually (one of the facts)), in exactly `length` bytes: the facts are named in turn, as often as there is room, and
+ * where two bytes are left a double not stands before the last. So `length` is 8 or 10 more than a multiple of 3. The formula stays open
+ * whatever happens. SYMBOL is a fact (code 3) or a step (code 4). */
 static inline formula response(uint8_t code, unsigned symbol, const uint8_t *facts, unsigned count, size_t length) {
     formula f = {{0x22, 0x12, 0x10, code, (uint8_t)symbol, 0x21}, 6};
-    for (unsigned i = 0; f.length + 4 <= length; i++) {
+    unsigned i = 0;
+    for (; f.length + 5 <= length; i++) {
         f.bytes[f.length++] = 0x12, f.bytes[f.length++] = 0x03, f.bytes[f.length++] = facts[i % count];
     }
-    while (f.length + 1 < length) f.bytes[f.length++] = 0x10;
-    f.bytes[f.length++] = 0x00;
+    if (f.length + 4 == length) f.bytes[f.length++] = 0x10, f.bytes[f.length++] = 0x10;
+    f.bytes[f.length++] = 0x03, f.bytes[f.length++] = facts[i % count];
     return f;
 }
 

@@ -17,7 +17,7 @@ static task cores(unsigned n) {
     return t;
 }
 
-/* Formulas of so many bytes, each on the facts of so many cores: what began at one core is answered at these. Every other one is on a step. */
+/* Formulas of so many bytes: what began at one core is answered at so many others. Every other one is on a step. */
 static void add_formulas(task *t, unsigned rules, unsigned hints, unsigned n, unsigned span, size_t length) {
     t->rules = rules, t->hints = hints;
     for (unsigned i = 0; i < rules + hints; i++) {
@@ -54,12 +54,12 @@ int main(void) {
         run("no rule", &t, places);
         add_formulas(&t, 8, 0, n, 1, 11), run("8 rules of 11 bytes", &t, places);
         add_formulas(&t, 4, 4, n, 1, 11), run("4 rules and 4 hints of 11 bytes", &t, places);
-        add_formulas(&t, 8, 0, n, span, 124), run("8 rules of 124 bytes on two cores", &t, places);
-        add_formulas(&t, 4, 4, n, span, 124), run("4 rules and 4 hints of 124 bytes on two cores", &t, places);
-        add_formulas(&t, 8, 0, n, n, 124), run("8 rules of 124 bytes on all cores", &t, places);
+        add_formulas(&t, 8, 0, n, span, 124), run("8 rules of 124 bytes, answered at two cores", &t, places);
+        add_formulas(&t, 4, 4, n, span, 124), run("4 rules and 4 hints of 124 bytes, answered at two", &t, places);
+        add_formulas(&t, 8, 0, n, n, 124), run("8 rules of 124 bytes, answered at all cores", &t, places);
         add_formulas(&t, 7, 0, n, span, 124), t.rules = 8, t.goal = 0;
         t.formula[7] = (formula){{0x21, 0x03, (uint8_t)(5 * n)}, 3};
-        run("the same with no goal but the last rule", &t, places);
+        run("7 rules of 124 bytes, and the last is the goal", &t, places);
     }
     return 0;
 }

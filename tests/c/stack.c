@@ -1,5 +1,6 @@
 /* How much stack a call needs, measured: the calls run on a stack of their own, painted before, and the bytes that they overwrite are counted.
- * The jobs have 16 formulas of 128 bytes that are nested as deep as can be, since the evaluator calls itself at each operand. */
+ * The job has 16 formulas of 128 bytes that are nested as deep as can be, 127 operators and a constant in each other, since the reader and the
+ * evaluator call themselves at each operand. */
 #include <stdio.h>
 #include <stdlib.h>
 #include <string.h>
@@ -18,12 +19,13 @@ static void put(uint8_t *at, uint64_t value, int bytes) {
     for (int i = 0; i < bytes; i++, value >>= 8) at[i] = (uint8_t)value;
 }
 
-/* 9 facts, each with a step that adds it and one that deletes it, and no goal; 8 rules and 8 hints: eventually not not .. fact 8. */
+/* 9 facts, each with a step that adds it and one that deletes it; fact 8 is the goal; 8 rules and 8 hints: always not not .. true, which stay open. */
 static void make_job(void) {
     size_t sections = 17, at = 4 + 4 * sections, size = 16 + 26 * 18;
     memset(job, 0, sizeof job);
     job[0] = 9, job[1] = 18, job[2] = job[3] = 8;
     put(job + 4, at, 2), put(job + 6, size, 2);
+    put(job + at + 8, 1ull << 8, 8);
     for (unsigned i = 0; i < 18; i++) {
         uint8_t *step = job + at + 16 + 26 * i;
         put(step + (i < 9 ? 8 : 16), 1ull << i % 9, 8);
@@ -33,7 +35,7 @@ static void make_job(void) {
     for (unsigned i = 0; i < 16; i++) {
         put(job + 8 + 4 * i, at, 2), put(job + 10 + 4 * i, 128, 2);
         memset(job + at, 0x10, 128);
-        job[at] = 0x21, job[at + 126] = 0x03, job[at + 127] = 8;
+        job[at] = 0x22, job[at + 127] = 0x01;
         at += 128;
     }
     job_len = at;
