@@ -9,7 +9,7 @@ import struct
 import subprocess
 import sys
 
-from oracle import Job, Refused, slots
+from oracle import Job, Refused, carried, read_section, slots
 
 LEAVES = [[0x00], [0x01], [0x02]]
 
@@ -41,8 +41,21 @@ def formula(rng, facts, steps, depth):
     return [code] + [b for _ in range(arity) for b in formula(rng, facts, steps, depth - 1)]
 
 
+def long_formula(rng, facts, steps):
+    """A formula of 16 to 128 bytes with at most four carried parts."""
+    while True:
+        code = formula(rng, facts, steps, 5)
+        try:
+            parts = len(carried(read_section(bytes(code), 0, len(code), facts, steps)))
+        except Refused:
+            continue
+        if 16 <= len(code) <= 128 and parts <= 4:
+            return code
+
+
 def random_job(rng):
     facts, steps = rng.randint(1, 3), rng.choice([0, 1, 2, 2, 3, 3, 4])
+    long = rng.random() < 0.1
     few = lambda: rng.choice([0, 0, 0, 1, 1, 2])
     subset = lambda p: sum(1 << i for i in range(facts) if rng.random() < p)
     sections = [subset(0.3).to_bytes(8, "little") + subset(0.4).to_bytes(8, "little")]
@@ -52,7 +65,7 @@ def random_job(rng):
         sections[0] += rng.choice([0, 0, 1, 1, 2, 3, 65535]).to_bytes(2, "little")
     rules, hints = few(), few()
     for _ in range(rules + hints):
-        sections.append(bytes(formula(rng, facts, steps, rng.randint(0, 3))))
+        sections.append(bytes(long_formula(rng, facts, steps) if long else formula(rng, facts, steps, rng.randint(0, 3))))
     offset, pairs = 4 + 4 * len(sections), b""
     for section in sections:
         pairs += struct.pack("<2H", offset, len(section))
@@ -81,6 +94,24 @@ def many_parts(rng, job):
     task = job[4 + 4 * (1 + job[2] + job[3]):][:16 + 26 * steps]
     rule = bytes([rng.choice([0x20, 0x21, 0x22]) for _ in range(rng.randint(5, 9))] + [0x03, 0])
     return bytes([facts, steps, 1, 0]) + struct.pack("<4H", 12, len(task), 12 + len(task), len(rule)) + task + rule
+
+
+def formula_bytes(job):
+    """How many bytes the formulas of a whole job have."""
+    return len(job) - (4 + 4 * (1 + job[2] + job[3])) - (16 + 26 * job[1])
+
+
+def long_walk(rng, job, count):
+    """So many applicable steps at random, or as many as there are."""
+    parsed, steps = Job(job), []
+    facts = parsed.start
+    for _ in range(count):
+        able = [s for s in range(len(parsed.steps)) if parsed.applicable(s, facts)]
+        if not able:
+            break
+        steps.append(rng.choice(able))
+        facts = parsed.after(steps[-1], facts)
+    return bytes(steps)
 
 
 # ---- what the document wants
@@ -131,14 +162,15 @@ def main():
     seed = int(sys.argv[2]) if len(sys.argv) > 2 else 20261115
     jobs = int(sys.argv[3]) if len(sys.argv) > 3 else 4000
     rng, driver, met = random.Random(seed), Driver(sys.argv[1]), {}
+    remembered = {"s": 0, "v": 0}
     for count in range(jobs):
         job = random_job(rng)
         if rng.random() < 0.05:
             job = many_parts(rng, job)
         if rng.random() < 0.2:
             job = damaged(rng, job)
-        size = rng.choice([0, 1, 2, 3, 4, 5, 6, 8, 12, 64, 64, 64]) * 160 + rng.randrange(160)
-        table = bytes(rng.randrange(256) for _ in range(size))
+        size = rng.choice([0, 1, 2, 3, 4, 5, 6, 8, 12, 64, 64, 64, 512, 512]) * 160 + rng.randrange(160)
+        table = rng.randbytes(size)
         plan = bytes(rng.randrange(256) for _ in range(rng.choice([0, 1, 2, 3, 4, 6, 8, 40])))
         ends, main_number = wanted_search(job, table, plan)
         got = driver.call(b"s", job, table, plan)
@@ -150,16 +182,27 @@ def main():
         lists = [bytes(rng.randrange(5) for _ in range(rng.randint(0, 4)))]
         if got[0][0] == 0:
             lists.append(got[2][:got[0][2]])
+        # a large table, or a long list, makes the planner keep what residuals leave
+        if main_number == 0 or main_number > 5:
+            worlds = 4096 // max(1, formula_bytes(job))
+            if formula_bytes(job) and worlds <= slots(table):
+                remembered["s"] += 1
+            if 20 <= formula_bytes(job):
+                lists.append(long_walk(rng, job, worlds + rng.randint(0, 60)))
+                remembered["v"] += len(lists[-1]) >= worlds
         for steps in lists:
             numbers, _, kept = driver.call(b"v", job, b"", steps)
             want = wanted_validate(job, steps)
             if numbers != want or kept != steps:
                 sys.exit(f"seed {seed}, job {count}: read-through of {list(steps)} in {job.hex()}: got {numbers}, wanted {want}")
             met[numbers[0]] = met.get(numbers[0], 0) + 1
+    if min(remembered.values()) < jobs // 50:
+        sys.exit(f"seed {seed}: too few large tables or long lists: {remembered}")
     missing = [n for n in range(14) if n not in met]
     if missing:
         sys.exit(f"seed {seed}: never met {missing}")
-    print(f"{jobs} random jobs, seed {seed}: all as document 01 says; numbers met: " + " ".join(f"{n}:{met[n]}" for n in sorted(met)))
+    print(f"{jobs} random jobs, seed {seed}: all as document 01 says; numbers met: " + " ".join(f"{n}:{met[n]}" for n in sorted(met))
+          + f"; with a memo: {remembered['s']} searches, {remembered['v']} read-throughs")
 
 
 if __name__ == "__main__":

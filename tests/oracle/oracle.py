@@ -104,6 +104,36 @@ def true_at(worlds, i, formula):
     return not any(not true_at(worlds, j, formula[2]) and all(not true_at(worlds, k, formula[1]) for k in range(i, j)) for j in range(i, last + 1))
 
 
+def truths(worlds, formula):
+    """The truth at every moment, for lists that are too long for the definition: from the last moment to the first, by what holds one later."""
+    kind, count = formula[0], len(worlds)
+    if kind in ("false", "true", "last", "fact", "step"):
+        return [true_at(worlds, i, formula) for i in range(count)]
+    left = truths(worlds, formula[1])
+    if kind == "not":
+        return [not x for x in left]
+    if kind == "next":
+        return left[1:] + [False]
+    right = truths(worlds, formula[2]) if kind in ("and", "or", "until", "release") else left
+    if kind == "and":
+        return [x and y for x, y in zip(left, right)]
+    if kind == "or":
+        return [x or y for x, y in zip(left, right)]
+    later, found = kind in ("always", "release"), []
+    for x, y in zip(reversed(left), reversed(right)):
+        later = {"eventually": x or later, "always": x and later, "until": y or (x and later), "release": y and (x or later)}[kind]
+        found.append(later)
+    return found[::-1]
+
+
+def meets(worlds, formula):
+    """The truth at the first moment; on short lists by both ways, which must agree."""
+    answer = truths(worlds, formula)[0]
+    if len(worlds) <= 8 and answer != true_at(worlds, 0, formula):
+        raise AssertionError((worlds, formula))
+    return answer
+
+
 # ---- remainders: the set of those settings of the carried parts (sets of offsets) that make them true
 
 
@@ -222,9 +252,9 @@ class Job:
             raise Refused(8, 0)
         worlds = self.worlds(plan)
         for i, rule in enumerate(self.rules):
-            if not true_at(worlds, 0, rule.formula):
+            if not meets(worlds, rule.formula):
                 raise Refused(9, i)
-        return self.cost(plan), sum(1 << i for i, h in enumerate(self.hints) if true_at(worlds, 0, h.formula))
+        return self.cost(plan), sum(1 << i for i, h in enumerate(self.hints) if meets(worlds, h.formula))
 
     def allowed(self, plan):
         try:

@@ -8,6 +8,7 @@ use mathlib.Core.List.{[], _∷_}
 use Rattle.model.specs.exploration.Key.{Le, less}
 use Rattle.model.specs.exploration.System.{System}
 use Rattle.model.proofs.exploration.KeyLaws.{le-refl, le-trans, lt-le, less-yes, less-no}
+use Rattle.model.proofs.exploration.Laws.{Laws}
 use Rattle.dijkstra.specs.Records.{Held, Open, Table, find, leastOpen}
 use Rattle.dijkstra.specs.Search.{someCutIn}
 use Rattle.dijkstra.proofs.Slots.{Holds}
@@ -42,6 +43,15 @@ module _ (S : System) where
       let f = rw e at (found n t 0) in
       let q : f .0 ≡ j = omega (arith, f .3) in
       (f .1, subst (λ (i : ℕ). Holds t i (f .1)) q (f .2), f .4)
+
+  -- A node that no other slot holds is found in its slot.
+  pub find-own : Laws S → (t : Table S) (i : ℕ) (r : Held S) → Holds t i r
+      → ((j : ℕ) (q : Held S) → Holds t j q → r .node ≡ q .node → i ≡ j) → find S (r .node) t 0 ≡ some i
+  find-own laws t i r h alone = go (find S (r .node) t 0) refl
+    where
+      go : (o : Option ℕ) → find S (r .node) t 0 ≡ o → find S (r .node) t 0 ≡ some i
+      go none e = absurd (true≢false (sym (laws .same-refl (r .node)) ∙ find-none (r .node) t e i r h))
+      go (some j) e = let f = find-some (r .node) t e in e ∙ ap some (sym (alone j (f .0) (f .1) (laws .same-eq _ _ (f .2))))
 
   -- ---- the first open slot of the least key
 

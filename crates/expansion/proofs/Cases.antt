@@ -1,5 +1,5 @@
 -- One arrival and one action of the search, case by case, as code comes to them.
-use mathlib.Core.Path.{_≡_, refl}
+use mathlib.Core.Path.{_≡_, refl, ap, _∙_}
 use mathlib.Core.Bool.{Bool, true, false}
 use mathlib.Core.Option.{none, some}
 use mathlib.Core.List.{[], _∷_, _++_}
@@ -13,7 +13,7 @@ use Rattle.model.specs.exploration.Key.{Key, extend, less, sameKey, earlier}
 use Rattle.model.specs.exploration.System.{System}
 use Rattle.dijkstra.specs.Records.{Held, Table, find}
 use Rattle.dijkstra.specs.Search.{goes-on, full, pathBy, tied, relaxed, arrive, follow, expand}
-use Rattle.dijkstra.proofs.Slots.{Holds}
+use Rattle.dijkstra.proofs.Slots.{Holds, set-held}
 
 module _ (S : System) where
   -- ---- an arrival at a node that is held
@@ -56,6 +56,10 @@ module _ (S : System) where
     pub arrive-held : {j : ℕ} {r : Held S} → find S n t 0 ≡ some j → Holds t j r → arrive S slots t n k h i a ≡ goes-on (set t j (relaxed S t r k h i a))
     unfolding arrive
     arrive-held f p = rw (f, arrive, p) refl
+
+    -- Where the node's slot is taken, the table stays as it is.
+    pub arrive-taken : {j : ℕ} {r : Held S} → find S n t 0 ≡ some j → Holds t j r → r .taken ≡ true → arrive S slots t n k h i a ≡ goes-on t
+    arrive-taken {j} {r} f p e = arrive-held f p ∙ ap goes-on (ap (set t j) (relaxed-taken t r h i a k e) ∙ set-held t j r p)
 
     pub arrive-new : find S n t 0 ≡ none → length t < slots
         → arrive S slots t n k h i a ≡ goes-on (t ++ (record { node = n; key = k; hints = h; parent = i; action = a; taken = false } ∷ []))

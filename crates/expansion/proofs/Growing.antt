@@ -1,12 +1,14 @@
 -- How the table grows by one arrival, and by one action.
 use mathlib.Core.Path.{_≡_, sym, ap, _∙_}
-use mathlib.Core.Bool.{true, false}
+use mathlib.Core.Bool.{Bool, true, false}
 use mathlib.Core.List.{List, [], _∷_, _++_}
 use Prim.Native.Nat.{ℕ, _+_, _*_, _≤_, _<_}
 use native.Mathlib.Omega.{arith}
 use lib.ListN.{length, set, take}
 use Rattle.model.specs.job.Layout.{constraintCount, jobOf}
+use Rattle.model.specs.search.Node.{sameNumbers}
 use Rattle.model.specs.search.JobSystem.{nextNode}
+use Rattle.model.proofs.job.NodeLaws.{numbers-eq}
 use Rattle.table.specs.declared.Slot.{Slot}
 use Rattle.table.specs.declared.Found.{Found}
 use Rattle.table.specs.declared.Found.the-variants.{At, Nothing}
@@ -17,8 +19,9 @@ use Rattle.nodes.specs.Meaning.{nodeIs, Clean, Leads}
 use Rattle.nodes.proofs.Arrivals.{leads-some, leads-none}
 use Rattle.dijkstra.specs.Records as search
 use Rattle.dijkstra.specs.Search.{Filled, goes-on, arrive, follow}
+use Rattle.dijkstra.proofs.Finding.{find-own}
 use Rattle.held.specs.Held.{sys, heldIs, heldIn, slotOption}
-use Rattle.held.proofs.JobLaws.{few-constraints}
+use Rattle.held.proofs.JobLaws.{few-constraints, sys-laws}
 use Rattle.held.proofs.HeldLaws.{length-held}
 use Rattle.held.proofs.Storing.{append-held, append-sound}
 use Rattle.held.proofs.Lookup.{find-held}
@@ -88,3 +91,16 @@ module _ {job : List ℕ} {places n : ℕ} {t : List ℕ} {i : ℕ} {from : Slot
     grows = cases.follow-some (sys job) places (heldIs job from) i (heldIn job n t) a (leads-some leads e) ∙ g .grows;
     fits = g .fits;
   }
+
+  -- It leads to the node that is expanded, whose slot is taken: the table stays as it is.
+  pub grew-self : {same : Bool} → to .alive ≡ true → same ≡ sameNumbers (to .node) (from .node) → same ≡ true → Grew job places followed (Held n) t
+  unfolding heldIs grownIs
+  grew-self e s y =
+      let g = x .expanding in
+      let d = numbers-eq (to .node) (from .node) (sym s ∙ y) in
+      let f = find-own (sys job) (sys-laws job) (heldIn job n t) i _ (g .held) (λ j q p. g .inv .distinct i j _ q (g .held) p) in
+      let w = ap (λ (m : List ℕ). search.find (sys job) (nodeIs (constraintCount job) m) (heldIn job n t) 0) d ∙ f in
+      grew-to e (record {
+        grows = cases.arrive-taken (sys job) places (heldIn job n t) _ _ _ i a w (g .held) (g .taken);
+        fits = (x .running .used, x .running .sound);
+      })

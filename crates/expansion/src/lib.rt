@@ -7,9 +7,12 @@ use table::Slot;
 use table::lookup;
 use table::slots;
 use task::Key;
+ghost use mathlib.Core.Path.{_≡_};
 ghost use Prim.Native.Nat.{_<_};
 ghost use Rattle.model.specs.job.Layout.{constraintCount};
+ghost use Rattle.model.specs.search.Node.{sameNumbers};
 ghost use Rattle.table.specs.Slots.{slotAt};
+ghost use Rattle.progression.specs.Workspace.{Workspace};
 ghost use Rattle.nodes.specs.Meaning.{nodeIs, Clean};
 ghost use Rattle.dijkstra.specs.Search.{arrive, follow, expand};
 ghost use Rattle.held.specs.Held.{sys, heldIs, heldIn};
@@ -24,9 +27,19 @@ pub enum Grown {
 }
 
 // An arrival at the node of slot j, which is held. A taken slot stays; a lesser key replaces, an equal one merges.
-fn relax(job: &[u8], t: &mut [u8], n: usize, i: usize, from: Slot, a: u8, node: [u64; 9], j: usize)
-    requires { ⌜ Arrives (now job) n (now t) i from a × (j < n) ⌝ }
-    ensures { λ _. ⌜ Relaxes (now (job .entry)) n (now (t .entry)) i from a node j (now (t .exit)) ⌝ }
+fn relax(
+    job: &[u8],
+    work: &mut [u64],
+    t: &mut [u8],
+    n: usize,
+    i: usize,
+    from: Slot,
+    a: u8,
+    node: [u64; 9],
+    j: usize,
+)
+    requires { ⌜ Arrives (now job) n (now t) i from a × (j < n) × Workspace (now job) (now work) ⌝ }
+    ensures { λ _. ⌜ Relaxes (now (job .entry)) n (now (t .entry)) i from a node j (now (t .exit)) × Workspace (now (job .entry)) (now (work .exit)) ⌝ }
 {
     if slots::is_taken(t, j) {
         return;
@@ -38,12 +51,12 @@ fn relax(job: &[u8], t: &mut [u8], n: usize, i: usize, from: Slot, a: u8, node: 
         steps: old.steps,
     };
     if key.less(least) {
-        let s = made::replaced(job, i, from, a, node, key, old);
+        let s = made::replaced(job, work, i, from, a, node, key, old);
         slots::store(t, j, s);
         return;
     }
     if key.same(least) {
-        let s = made::merged(job, t, n, i, from, a, node, old);
+        let s = made::merged(job, work, t, n, i, from, a, node, old);
         slots::store(t, j, s);
     }
 }
@@ -51,6 +64,7 @@ fn relax(job: &[u8], t: &mut [u8], n: usize, i: usize, from: Slot, a: u8, node: 
 // An arrival at a node, which is looked up.
 fn arrive(
     job: &[u8],
+    work: &mut [u64],
     t: &mut [u8],
     n: usize,
     places: usize,
@@ -59,19 +73,19 @@ fn arrive(
     a: u8,
     node: [u64; 9],
 ) -> Grown
-    requires { ⌜ Arriving (now job) places n (now t) i from a × Clean (constraintCount (now job)) node ⌝ }
+    requires { ⌜ Arriving (now job) places n (now t) i from a × Clean (constraintCount (now job)) node × Workspace (now job) (now work) ⌝ }
     ensures { λ r. ⌜ Grew (now (job .entry)) places
         (arrive (sys (now (job .entry))) places (heldIn (now (job .entry)) n (now (t .entry))) (nodeIs (constraintCount (now (job .entry))) node)
-        (keyBy (now (job .entry)) from a) (hintsBy (now (job .entry)) from a node) i a) r (now (t .exit)) ⌝ }
+        (keyBy (now (job .entry)) from a) (hintsBy (now (job .entry)) from a node) i a) r (now (t .exit)) × Workspace (now (job .entry)) (now (work .exit)) ⌝ }
 {
     match lookup::find(t, n, node) {
         Found::At(j) => {
-            relax(job, t, n, i, from, a, node, j);
+            relax(job, work, t, n, i, from, a, node, j);
             Grown::Held(n)
         }
         Found::Nothing => {
             if n < places {
-                let s = made::fresh(job, i, from, a, node);
+                let s = made::fresh(job, work, i, from, a, node);
                 slots::store(t, n, s);
                 Grown::Held(n + 1)
             } else {
@@ -81,34 +95,68 @@ fn arrive(
     }
 }
 
-// One action, from slot i, whose record is that of `from`.
-fn follow(job: &[u8], t: &mut [u8], n: usize, places: usize, i: usize, from: Slot, a: u8) -> Grown
-    requires { ⌜ Arriving (now job) places n (now t) i from a ⌝ }
+// Whether two nodes are the same, all words compared. Most that differ do so in the first word, so the loop starts there.
+fn same_node(a: [u64; 9], b: [u64; 9]) -> bool
+    ensures { λ r. ⌜ r ≡ sameNumbers a b ⌝ }
+{
+    let mut j = 0;
+    while j < 9 {
+        if a[j] != b[j] {
+            return false;
+        }
+        j += 1;
+    }
+    true
+}
+
+// One action, from slot i, whose record is that of `from`. That slot is taken, so an arrival at its own node changes nothing.
+fn follow(
+    job: &[u8],
+    work: &mut [u64],
+    t: &mut [u8],
+    n: usize,
+    places: usize,
+    i: usize,
+    from: Slot,
+    a: u8,
+) -> Grown
+    requires { ⌜ Arriving (now job) places n (now t) i from a × Workspace (now job) (now work) ⌝ }
     ensures { λ r. ⌜ Grew (now (job .entry)) places
-        (follow (sys (now (job .entry))) places (heldIn (now (job .entry)) n (now (t .entry))) (heldIs (now (job .entry)) from) i a) r (now (t .exit)) ⌝ }
+        (follow (sys (now (job .entry))) places (heldIn (now (job .entry)) n (now (t .entry))) (heldIs (now (job .entry)) from) i a) r (now (t .exit))
+        × Workspace (now (job .entry)) (now (work .exit)) ⌝ }
 {
     let at = from.node;
-    let to = nodes::next(job, at, a);
+    let to = nodes::next(job, work, at, a);
     if !to.alive {
         return Grown::Held(n);
     }
     let node = to.node;
-    arrive(job, t, n, places, i, from, a, node)
+    if same_node(node, at) {
+        return Grown::Held(n);
+    }
+    arrive(job, work, t, n, places, i, from, a, node)
 }
 
 // All actions in order. The slot is read once: being taken, it does not change while it is expanded.
-pub fn expand(job: &[u8], t: &mut [u8], n: usize, places: usize, i: usize) -> Grown
-    requires { ⌜ Busy (now job) places n (now t) i 0 ⌝ }
+pub fn expand(
+    job: &[u8],
+    work: &mut [u64],
+    t: &mut [u8],
+    n: usize,
+    places: usize,
+    i: usize,
+) -> Grown
+    requires { ⌜ Busy (now job) places n (now t) i 0 × Workspace (now job) (now work) ⌝ }
     ensures { λ r. ⌜ Grew (now (job .entry)) places
         (expand (sys (now (job .entry))) places (heldIn (now (job .entry)) n (now (t .entry))) (heldIs (now (job .entry)) (slotAt (now (t .entry)) i)) i
-        (sys (now (job .entry)) .actions)) r (now (t .exit)) ⌝ }
+        (sys (now (job .entry)) .actions)) r (now (t .exit)) × Workspace (now (job .entry)) (now (work .exit)) ⌝ }
 {
     let from = slots::load(t, i);
     let count = access::action_count(job);
     let mut held = n;
     let mut a = 0;
     while a < count {
-        let Grown::Held(m) = follow(job, t, held, places, i, from, a) else {
+        let Grown::Held(m) = follow(job, work, t, held, places, i, from, a) else {
             return Grown::Full;
         };
         held = m;

@@ -4,6 +4,7 @@ use task::Key;
 ghost use mathlib.Core.Path.{_≡_};
 ghost use Prim.Native.Nat.{_<_};
 ghost use Rattle.model.specs.job.Layout.{constraintCount, hintCount};
+ghost use Rattle.progression.specs.Workspace.{Workspace};
 ghost use Rattle.nodes.specs.Meaning.{Clean, Carries};
 ghost use Rattle.dijkstra.specs.Search.{tied};
 ghost use Rattle.held.specs.Held.{sys, heldIs, heldIn, Sound};
@@ -22,12 +23,12 @@ pub fn key_of(job: &[u8], from: Slot, a: u8) -> Key
 }
 
 // The hint residuals of an arrival at a node.
-fn hints_of(job: &[u8], from: Slot, a: u8, node: [u64; 9]) -> [u64; 8]
-    requires { ⌜ Extends (now job) from a ⌝ }
-    ensures { λ r. ⌜ Carries (hintCount (now (job .entry))) (hintsBy (now (job .entry)) from a node) r ⌝ }
+fn hints_of(job: &[u8], work: &mut [u64], from: Slot, a: u8, node: [u64; 9]) -> [u64; 8]
+    requires { ⌜ Extends (now job) from a × Workspace (now job) (now work) ⌝ }
+    ensures { λ r. ⌜ Carries (hintCount (now (job .entry))) (hintsBy (now (job .entry)) from a node) r × Workspace (now (job .entry)) (now (work .exit)) ⌝ }
 {
     let hints = from.hints;
-    nodes::next_hints(job, hints, node, a)
+    nodes::next_hints(job, work, hints, node, a)
 }
 
 // A slot of its parts, open.
@@ -47,19 +48,20 @@ fn opened(node: [u64; 9], hints: [u64; 8], key: Key, parent: u64, action: u64, g
 }
 
 // The slot of a new node.
-pub fn fresh(job: &[u8], i: usize, from: Slot, a: u8, node: [u64; 9]) -> Slot
-    requires { ⌜ Extends (now job) from a × (i < 65536) × Clean (constraintCount (now job)) node ⌝ }
-    ensures { λ r. ⌜ Makes (now (job .entry)) (newcomer (now (job .entry)) i from a node node) r ⌝ }
+pub fn fresh(job: &[u8], work: &mut [u64], i: usize, from: Slot, a: u8, node: [u64; 9]) -> Slot
+    requires { ⌜ Extends (now job) from a × (i < 65536) × Clean (constraintCount (now job)) node × Workspace (now job) (now work) ⌝ }
+    ensures { λ r. ⌜ Makes (now (job .entry)) (newcomer (now (job .entry)) i from a node node) r × Workspace (now (job .entry)) (now (work .exit)) ⌝ }
 {
     let key = key_of(job, from, a);
-    let hints = hints_of(job, from, a, node);
-    let goal = nodes::is_goal(job, node);
+    let hints = hints_of(job, work, from, a, node);
+    let goal = nodes::is_goal(job, work, node);
     opened(node, hints, key, i as u64, a as u64, goal)
 }
 
 // The slot of a node that is reached by a lesser key: the node is the old one, so it is a goal if that was.
 pub fn replaced(
     job: &[u8],
+    work: &mut [u64],
     i: usize,
     from: Slot,
     a: u8,
@@ -67,10 +69,11 @@ pub fn replaced(
     key: Key,
     old: Slot,
 ) -> Slot
-    requires { ⌜ Extends (now job) from a × (i < 65536) × Reaches (keyBy (now job) from a) key × Sound (now job) old ⌝ }
-    ensures { λ r. ⌜ Makes (now (job .entry)) (newcomer (now (job .entry)) i from a node (old .node)) r ⌝ }
+    requires { ⌜ Extends (now job) from a × (i < 65536) × Reaches (keyBy (now job) from a) key × Sound (now job) old
+        × Workspace (now job) (now work) ⌝ }
+    ensures { λ r. ⌜ Makes (now (job .entry)) (newcomer (now (job .entry)) i from a node (old .node)) r × Workspace (now (job .entry)) (now (work .exit)) ⌝ }
 {
-    let hints = hints_of(job, from, a, node);
+    let hints = hints_of(job, work, from, a, node);
     let same = old.node;
     opened(same, hints, key, i as u64, a as u64, old.goal)
 }
@@ -78,6 +81,7 @@ pub fn replaced(
 // The slot of a node that is reached by an equal key: both ways' hints hold, and the way whose path comes first is kept.
 pub fn merged(
     job: &[u8],
+    work: &mut [u64],
     t: &[u8],
     n: usize,
     i: usize,
@@ -86,12 +90,12 @@ pub fn merged(
     node: [u64; 9],
     old: Slot,
 ) -> Slot
-    requires { ⌜ Arrives (now job) n (now t) i from a × Ties (now job) n (now t) from a old ⌝ }
+    requires { ⌜ Arrives (now job) n (now t) i from a × Ties (now job) n (now t) from a old × Workspace (now job) (now work) ⌝ }
     ensures { λ r. ⌜ Makes (now (job .entry)) (tied (sys (now (job .entry))) (heldIn (now (job .entry)) n (now (t .entry))) (heldIs (now (job .entry)) old)
-        (hintsBy (now (job .entry)) from a node) i a) r ⌝ }
+        (hintsBy (now (job .entry)) from a node) i a) r × Workspace (now (job .entry)) (now (work .exit)) ⌝ }
 {
     let held = old.hints;
-    let hints = progression::met(held, hints_of(job, from, a, node));
+    let hints = progression::met(held, hints_of(job, work, from, a, node));
     let same = old.node;
     let key = Key {
         cost: old.cost,

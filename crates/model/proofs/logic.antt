@@ -4,6 +4,8 @@ pub mod SatLaws
 pub mod PartsLaws
 pub mod ProgressionLaws
 pub mod ResidualLaws
+pub mod SettledLaws
+pub mod NamesLaws
 pub mod NnfLaws
 pub mod Codes
 pub mod ReadingLaws

@@ -5,4 +5,5 @@ pub mod Parts
 pub mod Truth
 pub mod Sat
 pub mod Progression
+pub mod Names
 pub mod NormalForm

@@ -12,6 +12,7 @@ ghost use Rattle.model.specs.job.Layout.{actionCount, constraintCount, hintCoun
 ghost use Rattle.model.specs.job.Decoding.{jobVerdict};
 ghost use Rattle.model.specs.search.Node.{someDead};
 ghost use Rattle.model.specs.search.JobSystem.{startNode, nextNode, isGoal, startHints, carryHints};
+ghost use Rattle.progression.specs.Workspace.{Workspace};
 ghost use Rattle.nodes.specs.Meaning.{nodeIs, hintsIs, Acts, Costs, Made, Leads, Carries};
 
 // What an action leads to. Where it leads nowhere, alive is false and the node, clean as any, means nothing.
@@ -94,10 +95,10 @@ pub fn start(job: &[u8]) -> Reached
 }
 
 // The node that action i leads to. The constraints see the state after the action.
-pub fn next(job: &[u8], node: [u64; 9], i: u8) -> Reached
-    requires { ⌜ (jobVerdict (now job) ≡ Fine) × (i < actionCount (now job)) ⌝ }
+pub fn next(job: &[u8], work: &mut [u64], node: [u64; 9], i: u8) -> Reached
+    requires { ⌜ (jobVerdict (now job) ≡ Fine) × (i < actionCount (now job)) × Workspace (now job) (now work) ⌝ }
     ensures { λ r. ⌜ Leads (constraintCount (now (job .entry)))
-        (nextNode (jobOf (now (job .entry))) (nodeIs (constraintCount (now (job .entry))) node) i) r ⌝ }
+        (nextNode (jobOf (now (job .entry))) (nodeIs (constraintCount (now (job .entry))) node) i) r × Workspace (now (job .entry)) (now (work .exit)) ⌝ }
 {
     let action = action_of(job, i);
     let state = State { facts: node[0] };
@@ -111,21 +112,22 @@ pub fn next(job: &[u8], node: [u64; 9], i: u8) -> Reached
     unless_dead(
         job,
         facts,
-        progression::constraints_next(job, residuals_of(node), facts, i),
+        progression::constraints_next(job, work, residuals_of(node), facts, i),
     )
 }
 
 // Whether a path may end at a node: the goal is true, and so is each constraint's residual, of the closing world.
-pub fn is_goal(job: &[u8], node: [u64; 9]) -> bool
-    requires { ⌜ jobVerdict (now job) ≡ Fine ⌝ }
-    ensures { λ r. ⌜ r ≡ isGoal (jobOf (now (job .entry))) (nodeIs (constraintCount (now (job .entry))) node) ⌝ }
+pub fn is_goal(job: &[u8], work: &mut [u64], node: [u64; 9]) -> bool
+    requires { ⌜ (jobVerdict (now job) ≡ Fine) × Workspace (now job) (now work) ⌝ }
+    ensures { λ r. ⌜ (r ≡ isGoal (jobOf (now (job .entry))) (nodeIs (constraintCount (now (job .entry))) node))
+        × Workspace (now (job .entry)) (now (work .exit)) ⌝ }
 {
     let facts = node[0];
     let state = State { facts };
     if !state.has(access::goal(job)) {
         return false;
     }
-    progression::constraints_close(job, residuals_of(node), facts)
+    progression::constraints_close(job, work, residuals_of(node), facts)
 }
 
 pub fn start_hints(job: &[u8]) -> [u64; 8]
@@ -136,12 +138,13 @@ pub fn start_hints(job: &[u8]) -> [u64; 8]
 }
 
 // What the hints leave at the node that action i led to.
-pub fn next_hints(job: &[u8], hints: [u64; 8], node: [u64; 9], i: u8) -> [u64; 8]
-    requires { ⌜ (jobVerdict (now job) ≡ Fine) × (i < actionCount (now job)) ⌝ }
+pub fn next_hints(job: &[u8], work: &mut [u64], hints: [u64; 8], node: [u64; 9], i: u8) -> [u64; 8]
+    requires { ⌜ (jobVerdict (now job) ≡ Fine) × (i < actionCount (now job)) × Workspace (now job) (now work) ⌝ }
     ensures { λ r. ⌜ Carries (hintCount (now (job .entry)))
-        (carryHints (jobOf (now (job .entry))) (hintsIs (hintCount (now (job .entry))) hints) (nodeIs (constraintCount (now (job .entry))) node) i) r ⌝ }
+        (carryHints (jobOf (now (job .entry))) (hintsIs (hintCount (now (job .entry))) hints) (nodeIs (constraintCount (now (job .entry))) node) i) r
+        × Workspace (now (job .entry)) (now (work .exit)) ⌝ }
 {
-    progression::hints_next(job, hints, node[0], i)
+    progression::hints_next(job, work, hints, node[0], i)
 }
 
 // Whether no plan through here meets the hints: one of them is dead.

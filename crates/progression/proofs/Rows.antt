@@ -6,7 +6,7 @@ use native.Mathlib.Numerals.{add-one}
 use native.Mathlib.Decide.{decLt}
 use mathlib.Core.Bool.{Bool, true, false, _&&_, and-false}
 use mathlib.Core.List.{List, [], _∷_, _++_}
-use lib.ListN.{length, take, getD, set}
+use lib.ListN.{length, take, getD, set, replicate}
 use lib.Seq.{take-suc, length-take-le}
 use Rattle.model.specs.logic.Formula.{Formula}
 use Rattle.model.specs.logic.Parts.{partsOf}
@@ -18,7 +18,7 @@ use Rattle.model.specs.search.Node.{residuals, progressedAll, closingAll}
 use Rattle.model.proofs.job.VerdictLaws.{length-listOf}
 use Rattle.model.proofs.job.ResidualLists.{length-residuals, length-progressedAll}
 use Rattle.progression.specs.Padded.{padded, formulasFrom}
-use Rattle.progression.proofs.Padding.{set-padded}
+use Rattle.progression.proofs.Padding.{set-padded, padded-none}
 
 -- ---- one formula more behind others
 
@@ -70,6 +70,11 @@ module _ (bytes : List ℕ) where
     length-formulasFrom : (n : ℕ) → length (formulasFrom bytes from n) ≡ n
     unfolding formulasFrom
     length-formulasFrom n = length-listOf _ n
+
+    -- no formula: nothing is left of it
+    pub nothing-next : (w : World) → replicate 8 0 ≡ padded (progressedAll (formulasFrom bytes from 0) [] w)
+    unfolding formulasFrom listOf progressedAll
+    nothing-next w = padded-none
 
     formulasFrom-more : (n : ℕ) → formulasFrom bytes from (n + 1) ≡ formulasFrom bytes from n ++ (formulaAt bytes (from + n) ∷ [])
     unfolding formulasFrom listOf

@@ -1,13 +1,22 @@
 // The formula in section i of an accepted job: the section is lent on to the evaluator.
+use super::numbers;
 use job::access;
 ghost use mathlib.Core.Path.{_≡_};
 ghost use mathlib.Core.Option.{none, some};
 ghost use Prim.Native.Nat.{_≤_, _<_};
 ghost use Rattle.model.specs.declared.Verdict.the-variants.{Fine};
 ghost use Rattle.model.specs.logic.Parts.{partsOf};
-ghost use Rattle.model.specs.logic.Progression.{residual, progressed, closing};
+ghost use Rattle.model.specs.logic.Names.{Names};
+ghost use Rattle.model.specs.logic.Progression.{settled, residual, progressed, closing};
 ghost use Rattle.model.specs.job.Layout.{pairCount, formulaAt};
 ghost use Rattle.model.specs.job.Decoding.{jobVerdict};
+
+// Whether a residual is the same at every setting of its carried parts: such a one stays as it is.
+pub fn is_settled(r: u64) -> bool
+    ensures { λ b. ⌜ b ≡ settled 6 r ⌝ }
+{
+    r == 0 || r == 0xffff_ffff_ffff_ffff
+}
 
 // What the formula leaves after the first world.
 pub fn first(job: &[u8], i: usize, state: u64) -> u64
@@ -37,4 +46,22 @@ pub fn closing(job: &[u8], i: usize, r: u64, state: u64) -> bool
     let start = access::section_offset(job, i);
     let end = start + access::section_length(job, i);
     residual::closing(&job[start..end], r, state)
+}
+
+// The facts and the actions that a formula names, as sets.
+pub struct Named {
+    pub facts: u64,
+    pub actions: u64,
+}
+
+// What the formula names, and perhaps more.
+pub fn names(job: &[u8], i: usize) -> Named
+    requires { ⌜ (jobVerdict (now job) ≡ Fine) × (1 ≤ i) × (i < pairCount (now job)) ⌝ }
+    ensures { λ r. ⌜ Names (r .facts) (r .actions) (formulaAt (now (job .entry)) i) ⌝ }
+{
+    let start = access::section_offset(job, i);
+    let end = start + access::section_length(job, i);
+    let facts = numbers::after(&job[start..end], 3);
+    let actions = numbers::after(&job[start..end], 4);
+    Named { facts, actions }
 }

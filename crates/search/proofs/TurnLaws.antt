@@ -32,6 +32,7 @@ use Rattle.expansion.specs.Growth.{Grew}
 use Rattle.expansion.proofs.GrowthLaws.{grew-none, grew-held, grew-running}
 use Rattle.search.specs.declared.Ended.{Ended}
 use Rattle.search.specs.declared.Ended.the-variants as ended
+use Rattle.search.specs.declared.Turn.{Turn}
 use Rattle.search.specs.declared.Turn.the-variants.{On, End}
 use Rattle.search.specs.GoalSlots.{firstDue, Behind}
 use Rattle.search.specs.Outcome.{EndsAs, Turned, keyAt, Least, Taking}
@@ -99,14 +100,20 @@ module _ (job : List ℕ) (places n : ℕ) (t : List ℕ) where
   pub nothing-ends : {x : ℕ} → leastOpen (sys job) (heldIn job n t) 0 ≡ none → exhausted (sys job) (heldIn job n t) ≡ no-plan x → Turned job places n t t (End (ended.NoPlan x))
   nothing-ends e h = λ k. turn-none (sys job) places (heldIn job n t) k e ∙ ap answered h
 
+  -- A turn that goes on leaves the table between two turns.
+  pub turn-idle : (u : List ℕ) (r : Turn) (m : ℕ) → Turned job places n t u r → r ≡ On m → Idle job places m u
+  turn-idle u r m h g = subst (Turned job places n t u) g h .0
+
   -- With k turns left the search comes to res. A turn leaves one less,
   module _ (k l : ℕ) {res : Result} (rest : turns (sys job) places k (heldIn job n t) ≡ res) where
-    pub turn-again : {u : List ℕ} {m : ℕ} → Turned job places n t u (On m) → k ≡ suc l → turns (sys job) places l (heldIn job m u) ≡ res
-    turn-again h e = sym (h .1 l) ∙ ap (λ (x : ℕ). turns (sys job) places x (heldIn job n t)) (sym e) ∙ rest
+    pub turn-again : (u : List ℕ) (r : Turn) (m : ℕ) → Turned job places n t u r → r ≡ On m → k ≡ suc l → turns (sys job) places l (heldIn job m u) ≡ res
+    turn-again u r m h g e =
+        sym (subst (Turned job places n t u) g h .1 l) ∙ ap (λ (x : ℕ). turns (sys job) places x (heldIn job n t)) (sym e) ∙ rest
 
     -- or ends the search;
-    pub turn-ends : (u : List ℕ) (e : Ended) → Turned job places n t u (End e) → k ≡ suc l → EndsAs u e res
-    turn-ends u e h d = subst (EndsAs u e) (ap (λ (x : ℕ). turns (sys job) places x (heldIn job n t)) (sym d) ∙ rest) (h l)
+    pub turn-ends : (u : List ℕ) (r : Turn) (e : Ended) → Turned job places n t u r → r ≡ End e → k ≡ suc l → EndsAs u e res
+    turn-ends u r e h g d =
+        subst (EndsAs u e) (ap (λ (x : ℕ). turns (sys job) places x (heldIn job n t)) (sym d) ∙ rest) (subst (Turned job places n t u) g h l)
 
     -- and where none is left, the table is full.
     pub turns-over : k ≡ 0 → EndsAs t ended.Full res

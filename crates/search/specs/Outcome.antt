@@ -6,12 +6,15 @@ use Prim.Native.Nat.{ℕ, suc, _*_, _≤_, _<_}
 use lib.ListN.{length}
 use Rattle.model.specs.exploration.Key.{Key}
 use Rattle.model.specs.exploration.Equations.{plan, no-plan}
-use Rattle.model.specs.job.Layout.{constraintCount}
+use Rattle.model.specs.declared.Verdict.the-variants.{Fine}
+use Rattle.model.specs.job.Decoding.{jobVerdict}
+use Rattle.model.specs.job.Layout.{constraintCount, jobOf}
+use Rattle.model.specs.search.JobSystem.{startNode}
 use Rattle.dijkstra.specs.Records.{leastOpen}
 use Rattle.dijkstra.specs.Search.{Result, answered, too-small, firstGoal, turns, startTable}
 use Rattle.table.specs.Slots.{slotAt}
 use Rattle.table.specs.Lookup.{keyOf}
-use Rattle.nodes.specs.Meaning.{nodeIs}
+use Rattle.nodes.specs.Meaning.{nodeIs, Clean}
 use Rattle.paths.specs.Chain.{held, stepsAt, slotPath, Chained}
 use Rattle.held.specs.Held.{sys, heldIn, SoundTo}
 use Rattle.held.specs.Running.{Idle}
@@ -48,6 +51,15 @@ pub record Taking (job : List ℕ) (places n : ℕ) (t : List ℕ) (i : ℕ) : T
   pub idle : Idle job places n t
   pub chosen : Least job n t i
   pub noGoal : firstGoal (sys job) (heldIn job n t) (keyAt t i) (heldIn job n t) 0 ≡ none
+
+-- A search of an accepted job can begin: its start node, of that array, is reached, and there is a slot for it.
+pub record Starts (job : List ℕ) (places : ℕ) (node t : List ℕ) : Type 0 where
+  pub accepted : jobVerdict job ≡ Fine
+  pub starts : startNode (jobOf job) ≡ some (nodeIs (constraintCount job) node)
+  pub clean : Clean (constraintCount job) node
+  pub some-place : 0 < places
+  pub room : places * 160 ≤ length t
+  pub most : places ≤ 65536
 
 -- The start node, of that array, is in slot 0.
 pub record Begun (job node after : List ℕ) : Type 0 where

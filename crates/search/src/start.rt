@@ -14,15 +14,16 @@ ghost use Rattle.model.specs.job.Decoding.{jobVerdict};
 ghost use Rattle.dijkstra.specs.Search.{searchIn};
 ghost use Rattle.nodes.specs.Meaning.{Clean};
 ghost use Rattle.held.specs.Held.{sys};
-ghost use Rattle.search.specs.Outcome.{EndsAs, Begun};
+ghost use Rattle.progression.specs.Workspace.{Workspace};
+ghost use Rattle.search.specs.Outcome.{EndsAs, Starts, Begun};
 
 // Writes the start node, which has no parent, to slot 0.
-fn begin(job: &[u8], t: &mut [u8], node: [u64; 9])
-    requires { ⌜ (jobVerdict (now job) ≡ Fine) × Clean (constraintCount (now job)) node × (160 ≤ length (now t)) ⌝ }
-    ensures { λ _. ⌜ Begun (now (job .entry)) node (now (t .exit)) ⌝ }
+fn begin(job: &[u8], work: &mut [u64], t: &mut [u8], node: [u64; 9])
+    requires { ⌜ (jobVerdict (now job) ≡ Fine) × Clean (constraintCount (now job)) node × (160 ≤ length (now t)) × Workspace (now job) (now work) ⌝ }
+    ensures { λ _. ⌜ Begun (now (job .entry)) node (now (t .exit)) × Workspace (now (job .entry)) (now (work .exit)) ⌝ }
 {
     let hints = nodes::start_hints(job);
-    let goal = nodes::is_goal(job, node);
+    let goal = nodes::is_goal(job, work, node);
     let key = Key::ZERO;
     slots::store(
         t,
@@ -40,6 +41,29 @@ fn begin(job: &[u8], t: &mut [u8], node: [u64; 9])
     );
 }
 
+// The search from the start node, in a table of so many places.
+fn from_start(job: &[u8], work: &mut [u64], t: &mut [u8], places: usize, node: [u64; 9]) -> Ended
+    requires { ⌜ Starts (now job) places node (now t) × Workspace (now job) (now work) ⌝ }
+    ensures { λ r. ⌜ EndsAs (now (t .exit)) r (searchIn (sys (now (job .entry))) places) ⌝ }
+{
+    begin(job, work, t, node);
+    turns::run(job, work, t, places)
+}
+
+// The same in a workspace of its own, which has a memo where that pays.
+fn in_workspace(job: &[u8], t: &mut [u8], places: usize, node: [u64; 9]) -> Ended
+    requires { ⌜ Starts (now job) places node (now t) ⌝ }
+    ensures { λ r. ⌜ EndsAs (now (t .exit)) r (searchIn (sys (now (job .entry))) places) ⌝ }
+{
+    if progression::pays(job, places) {
+        let mut work = [0u64; progression::WORDS];
+        progression::prepare(job, &mut work);
+        return from_start(job, &mut work, t, places, node);
+    }
+    let mut none = [0u64; 0];
+    from_start(job, &mut none, t, places, node)
+}
+
 // The search in a table, whatever its bytes are.
 pub fn searched(job: &[u8], t: &mut [u8]) -> Ended
     requires { ⌜ jobVerdict (now job) ≡ Fine ⌝ }
@@ -54,6 +78,5 @@ pub fn searched(job: &[u8], t: &mut [u8]) -> Ended
         return Ended::Full;
     }
     let node = first.node;
-    begin(job, t, node);
-    turns::run(job, t, places)
+    in_workspace(job, t, places, node)
 }

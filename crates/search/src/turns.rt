@@ -12,6 +12,7 @@ ghost use lib.ListN.{length};
 ghost use Rattle.model.specs.declared.Verdict.the-variants.{Fine};
 ghost use Rattle.model.specs.exploration.Equations.{no-plan};
 ghost use Rattle.model.specs.job.Decoding.{jobVerdict};
+ghost use Rattle.progression.specs.Workspace.{Workspace};
 ghost use Rattle.dijkstra.specs.Search.{exhausted, turns};
 ghost use Rattle.held.specs.Held.{sys, heldIn};
 ghost use Rattle.held.specs.Running.{Idle};
@@ -26,55 +27,55 @@ fn refusal(job: &[u8], t: &[u8], n: usize) -> u8
 }
 
 // Takes the slot i, and follows its actions unless it is cut.
-fn take(job: &[u8], t: &mut [u8], n: usize, places: usize, i: usize) -> Turn
-    requires { ⌜ Taking (now job) places n (now t) i ⌝ }
-    ensures { λ r. ⌜ Turned (now (job .entry)) places n (now (t .entry)) (now (t .exit)) r ⌝ }
+fn take(job: &[u8], work: &mut [u64], t: &mut [u8], n: usize, places: usize, i: usize) -> Turn
+    requires { ⌜ Taking (now job) places n (now t) i × Workspace (now job) (now work) ⌝ }
+    ensures { λ r. ⌜ Turned (now (job .entry)) places n (now (t .entry)) (now (t .exit)) r × Workspace (now (job .entry)) (now (work .exit)) ⌝ }
 {
     let cut = goals::slot_cut(job, t, i);
     slots::mark(t, i);
     if cut {
         return Turn::On(n);
     }
-    match expansion::expand(job, t, n, places, i) {
+    match expansion::expand(job, work, t, n, places, i) {
         Grown::Held(m) => Turn::On(m),
         Grown::Full => Turn::End(Ended::Full),
     }
 }
 
 // A turn at the slot i, the open one of the least key.
-fn turn_at(job: &[u8], t: &mut [u8], n: usize, places: usize, i: usize) -> Turn
-    requires { ⌜ Idle (now job) places n (now t) × Least (now job) n (now t) i ⌝ }
-    ensures { λ r. ⌜ Turned (now (job .entry)) places n (now (t .entry)) (now (t .exit)) r ⌝ }
+fn turn_at(job: &[u8], work: &mut [u64], t: &mut [u8], n: usize, places: usize, i: usize) -> Turn
+    requires { ⌜ Idle (now job) places n (now t) × Least (now job) n (now t) i × Workspace (now job) (now work) ⌝ }
+    ensures { λ r. ⌜ Turned (now (job .entry)) places n (now (t .entry)) (now (t .exit)) r × Workspace (now (job .entry)) (now (work .exit)) ⌝ }
 {
     let cost = slots::cost(t, i);
     let steps = slots::steps(t, i);
     match goals::first_goal(job, t, n, cost, steps) {
         Found::At(g) => Turn::End(Ended::Goal(g, n)),
-        Found::Nothing => take(job, t, n, places, i),
+        Found::Nothing => take(job, work, t, n, places, i),
     }
 }
 
 // One turn.
-fn turn(job: &[u8], t: &mut [u8], n: usize, places: usize) -> Turn
-    requires { ⌜ Idle (now job) places n (now t) ⌝ }
-    ensures { λ r. ⌜ Turned (now (job .entry)) places n (now (t .entry)) (now (t .exit)) r ⌝ }
+fn turn(job: &[u8], work: &mut [u64], t: &mut [u8], n: usize, places: usize) -> Turn
+    requires { ⌜ Idle (now job) places n (now t) × Workspace (now job) (now work) ⌝ }
+    ensures { λ r. ⌜ Turned (now (job .entry)) places n (now (t .entry)) (now (t .exit)) r × Workspace (now (job .entry)) (now (work .exit)) ⌝ }
 {
     match lookup::least(t, n) {
-        Found::At(i) => turn_at(job, t, n, places, i),
+        Found::At(i) => turn_at(job, work, t, n, places, i),
         Found::Nothing => Turn::End(Ended::NoPlan(refusal(job, t, n))),
     }
 }
 
 // All turns, from a table with the start node in slot 0. Each takes one slot, so one turn more than there are places is enough.
-pub fn run(job: &[u8], t: &mut [u8], places: usize) -> Ended
-    requires { ⌜ Idle (now job) places 1 (now t) ⌝ }
+pub fn run(job: &[u8], work: &mut [u64], t: &mut [u8], places: usize) -> Ended
+    requires { ⌜ Idle (now job) places 1 (now t) × Workspace (now job) (now work) ⌝ }
     ensures { λ r. ⌜ EndsAs (now (t .exit)) r (turns (sys (now (job .entry))) places (suc places) (heldIn (now (job .entry)) 1 (now (t .entry)))) ⌝ }
 {
     let mut n = 1;
     let mut left = places + 1;
     while left > 0 {
         left -= 1;
-        match turn(job, t, n, places) {
+        match turn(job, work, t, n, places) {
             Turn::On(m) => n = m,
             Turn::End(e) => return e,
         }

@@ -24,15 +24,16 @@ use Rattle.table.proofs.SlotLaws.{length-slots, length-node, node-word}
 -- ---- two lists of numbers, compared from the front
 
 -- Where their elements at j agree, what decides is behind them; where these differ, the lists do; lists that end there are the same.
-same-on : (a b : List ℕ) (j : ℕ) → getD a j 0 ≡ getD b j 0 → j < length a → j < length b → sameNumbers (drop j a) (drop j b) ≡ sameNumbers (drop (j + 1) a) (drop (j + 1) b)
+pub same-on : (a b : List ℕ) (j : ℕ) → getD a j 0 ≡ getD b j 0 → j < length a → j < length b
+    → sameNumbers (drop j a) (drop j b) ≡ sameNumbers (drop (j + 1) a) (drop (j + 1) b)
 unfolding sameNumbers
 same-on a b j e ha hb = rw (add-one j, drop-cons a j 0 ha, drop-cons b j 0 hb, eq-eqb (getD a j 0) (getD b j 0) e, sameNumbers)
 
-same-not : (a b : List ℕ) (j : ℕ) → (getD a j 0 ≡ getD b j 0 → ⊥) → j < length a → j < length b → sameNumbers (drop j a) (drop j b) ≡ false
+pub same-not : (a b : List ℕ) (j : ℕ) → (getD a j 0 ≡ getD b j 0 → ⊥) → j < length a → j < length b → sameNumbers (drop j a) (drop j b) ≡ false
 unfolding sameNumbers
 same-not a b j e ha hb = rw (drop-cons a j 0 ha, drop-cons b j 0 hb, ne-eqb (getD a j 0) (getD b j 0) e, sameNumbers)
 
-same-end : (a b : List ℕ) (j : ℕ) → length a ≤ j → length b ≤ j → sameNumbers (drop j a) (drop j b) ≡ true
+pub same-end : (a b : List ℕ) (j : ℕ) → length a ≤ j → length b ≤ j → sameNumbers (drop j a) (drop j b) ≡ true
 unfolding sameNumbers
 same-end a b j ha hb = rw (drop-of-length-le a ha, drop-of-length-le b hb)
 

@@ -12,6 +12,7 @@ ghost use Rattle.model.specs.job.Layout.{jobOf};
 ghost use Rattle.model.specs.job.Decoding.{jobVerdict};
 ghost use Rattle.model.specs.task.Plan.{costOf};
 ghost use Rattle.model.specs.calls.Validate.{stepVerdict, stepsVerdict, hintBits, validated};
+ghost use Rattle.progression.specs.Workspace.{Workspace};
 ghost use Rattle.validate.specs.Answer.{answer};
 ghost use Rattle.validate.specs.Walk.{walkOf, judged};
 
@@ -19,8 +20,8 @@ mod walk; // walk.rt: what the steps made so far lead to
 mod end; // end.rt: the checks behind the last step
 
 // Checks and makes the steps in turn, and judges where they lead.
-fn through(job: &[u8], steps: &[u8]) -> Validated
-    requires { ⌜ (jobVerdict (now job) ≡ Fine) × (length (now steps) ≤ 65535) ⌝ }
+fn through(job: &[u8], work: &mut [u64], steps: &[u8]) -> Validated
+    requires { ⌜ (jobVerdict (now job) ≡ Fine) × (length (now steps) ≤ 65535) × Workspace (now job) (now work) ⌝ }
     ensures { λ r. ⌜ r ≡ answer (inTurn (length (now (steps .entry))) (stepVerdict (jobOf (now (job .entry))) (now (steps .entry))))
         (judged (jobOf (now (job .entry))) (walkOf (jobOf (now (job .entry))) (now (steps .entry)))) ⌝ }
 {
@@ -31,10 +32,25 @@ fn through(job: &[u8], steps: &[u8]) -> Validated
         if let Verdict::Bad(refusal) = verdict {
             return Validated::Refused(refusal);
         }
-        w = walk::make(job, w, steps[i]);
+        w = walk::make(job, work, w, steps[i]);
         i += 1;
     }
     end::judged(job, w)
+}
+
+// The same in a workspace of its own, which has a memo where that pays.
+fn in_workspace(job: &[u8], steps: &[u8]) -> Validated
+    requires { ⌜ (jobVerdict (now job) ≡ Fine) × (length (now steps) ≤ 65535) ⌝ }
+    ensures { λ r. ⌜ r ≡ answer (inTurn (length (now (steps .entry))) (stepVerdict (jobOf (now (job .entry))) (now (steps .entry))))
+        (judged (jobOf (now (job .entry))) (walkOf (jobOf (now (job .entry))) (now (steps .entry)))) ⌝ }
+{
+    if progression::pays(job, steps.len()) {
+        let mut work = [0u64; progression::WORDS];
+        progression::prepare(job, &mut work);
+        return through(job, &mut work, steps);
+    }
+    let mut none = [0u64; 0];
+    through(job, &mut none, steps)
 }
 
 // The step list of a job that is accepted.
@@ -49,7 +65,7 @@ fn read_through(job: &[u8], steps: &[u8]) -> Validated
             place: 65535,
         });
     }
-    through(job, steps)
+    in_workspace(job, steps)
 }
 
 // The first refusal that applies to the job or to its step list, or the cost and the hints that are met. Any bytes may be lent.

@@ -13,6 +13,7 @@ ghost use Rattle.model.specs.job.Job.{actionOf};
 ghost use Rattle.model.specs.job.Layout.{actionCount, jobOf};
 ghost use Rattle.model.specs.job.Decoding.{jobVerdict};
 ghost use Rattle.model.specs.task.State.{applicable};
+ghost use Rattle.progression.specs.Workspace.{Workspace};
 ghost use Rattle.validate.specs.Walk.{started, stepped};
 
 // What the steps made so far lead to: the facts, the summed cost, and what constraints and hints have left.
@@ -54,9 +55,9 @@ pub fn check_step(job: &[u8], facts: u64, step: u8, i: usize) -> Verdict
 }
 
 // One step further.
-pub fn make(job: &[u8], w: Walk, step: u8) -> Walk
-    requires { ⌜ (jobVerdict (now job) ≡ Fine) × (step < actionCount (now job)) × (w .cost ≤ 65535 * 65535) ⌝ }
-    ensures { λ r. ⌜ (r ≡ stepped (jobOf (now (job .entry))) w step) × (r .cost ≤ w .cost + 65535) ⌝ }
+pub fn make(job: &[u8], work: &mut [u64], w: Walk, step: u8) -> Walk
+    requires { ⌜ (jobVerdict (now job) ≡ Fine) × (step < actionCount (now job)) × (w .cost ≤ 65535 * 65535) × Workspace (now job) (now work) ⌝ }
+    ensures { λ r. ⌜ (r ≡ stepped (jobOf (now (job .entry))) w step) × (r .cost ≤ w .cost + 65535) × Workspace (now (job .entry)) (now (work .exit)) ⌝ }
 {
     let action = nodes::action_of(job, step);
     let price = action.cost;
@@ -66,8 +67,8 @@ pub fn make(job: &[u8], w: Walk, step: u8) -> Walk
     let before = State { facts: w.facts };
     let after = before.after(action);
     let facts = after.facts;
-    let constraints = progression::constraints_next(job, left, facts, step);
-    let hints = progression::hints_next(job, hinted, facts, step);
+    let constraints = progression::constraints_next(job, work, left, facts, step);
+    let hints = progression::hints_next(job, work, hinted, facts, step);
     Walk {
         facts,
         cost: spent + price,

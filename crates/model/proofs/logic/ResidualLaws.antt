@@ -28,7 +28,7 @@ progressed-lt n ps r w = ofBits-lt (2 ^ n) _
 pub same-residual : (n r q : ℕ) → r < 2 ^ (2 ^ n) → q < 2 ^ (2 ^ n) → (r ≡ q) ↔ ((k : ℕ) → k < 2 ^ n → bit r k ≡ bit q k)
 same-residual n r q hr hq = (λ e k l. ap (λ (x : ℕ). bit x k) e, bits-ext (2 ^ n) r q hr hq)
 
-dead-zero : (r : ℕ) → dead r ≡ true → r ≡ 0
+pub dead-zero : (r : ℕ) → dead r ≡ true → r ≡ 0
 unfolding dead
 dead-zero r d = eqb-true r 0 d
 

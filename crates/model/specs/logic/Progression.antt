@@ -1,6 +1,6 @@
 -- Progression (source document 003, figure 1): what a formula leaves after a world that is not the closing one. Document 01 calls what is
 -- left a remainder; here it is a residual.
-use Prim.Native.Nat.{ℕ, suc, _+_, _^_}
+use Prim.Native.Nat.{ℕ, suc, _+_, _-_, _^_}
 use mathlib.Core.Bool.{Bool, true, false, not, _&&_, _||_}
 use mathlib.Core.List.{List, [], _∷_}
 use lib.Dec.{eqb}
@@ -45,6 +45,15 @@ progressed n ps r w = ofBits (2 ^ n) (λ k. bit r (bitsOf (λ (p : Part). progre
 -- "a remainder is dead if all give false"
 unfoldable pub dead : ℕ → Bool
 dead r = eqb r 0
+
+-- the table of n parts that is true at every setting
+abbrev pub allTrue : ℕ → ℕ
+allTrue n = 2 ^ (2 ^ n) - 1
+
+-- the same at every setting: no world changes it any more
+unfoldable pub settled : ℕ → ℕ → Bool
+unfolding dead
+settled n r = dead r || eqb r (allTrue n)
 
 -- a residual's truth where the parts have their truth on a list of worlds
 unfoldable pub residualHolds : List Part → ℕ → List World → Bool

@@ -9,22 +9,41 @@ use Rattle.nodes.proofs.Arrivals.{goal-not, goal-closing}
 use Rattle.nodes.proofs.is_goal.Statement.{statement}
 use Rattle.nodes.proofs.is_goal.Tie as tie
 
+-- ---- places
+
+abbrev start : tie.After-goal → tie.Start
+start c = c .before .before .before
+
+abbrev goal : tie.After-has → tie.After-goal
+goal c = c .before
+
+-- ---- needs
+
 goal-requires : tie.Need-goal-requires
-goal-requires c κs = let l = accepted-laid _ (c .before .pre) in (task-pair l, task-inside l)
+goal-requires c κs = let l = accepted-laid _ (c .before .before .pre .0) in (task-pair l, task-inside l)
 
 returns : tie.Need-returns
 returns c =
-    let s = c .before .before .before .before in
-    let g = c .before .before .goal .ensures in
-    sym (goal-not (jobOf (s .args .job .now)) _ (s .args .t2) g (sym (c .before .has .ensures) ∙ not-true (c .before .has .result) (c .if1 .taken)))
+    let h = c .before in
+    let g = goal h in
+    let s = start g in (
+      sym (goal-not (jobOf (s .args .job .now)) _ (s .args .t3) (g .goal .ensures) (sym (h .has .ensures) ∙ not-true (h .has .result) (c .if1 .taken))),
+      s .pre .1,
+    )
 
 returns-2 : tie.Need-returns-2
 returns-2 c =
-    let d = c .before .before in
-    let s = d .before .before .before .before in
-    let g = d .before .before .goal .ensures in
-    rw (c .before .residuals-of .ensures) at (c .constraints-close .ensures)
-    ∙ sym (goal-closing (jobOf (s .args .job .now)) _ (s .args .t2) g (sym (d .before .has .ensures) ∙ not-false (d .before .has .result) (d .if1 .left)))
+    let k = c .before .before in
+    let r = k .before in
+    let e = r .before .before in
+    let h = e .before in
+    let g = goal h in
+    let s = start g in (
+      rw (r .residuals-of .ensures) at (k .constraints-close .ensures .0)
+          ∙ sym (goal-closing (jobOf (s .args .job .now)) _ (s .args .t3) (g .goal .ensures)
+          (sym (h .has .ensures) ∙ not-false (h .has .result) (e .if1 .left))),
+      k .constraints-close .ensures .1,
+    )
 
 pub is-goal-spec : {M : Type 1} → statement M
 is-goal-spec =
@@ -36,4 +55,5 @@ is-goal-spec =
     returns
     (λ c κs. search needs)
     (λ c κs. search needs)
+    (λ c. search needs)
     returns-2)

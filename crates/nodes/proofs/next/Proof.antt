@@ -10,30 +10,54 @@ use Rattle.nodes.proofs.Arrivals.{next-nowhere, next-leads}
 use Rattle.nodes.proofs.next.Statement.{statement}
 use Rattle.nodes.proofs.next.Tie as tie
 
+-- ---- places
+
+abbrev start : tie.After-action-of → tie.Start
+start c = c .before .before .before
+
+abbrev acted : tie.After-applicable → tie.After-action-of
+acted c = c .before
+
+abbrev tested : tie.After-after → tie.After-applicable
+tested c = c .before .before
+
+abbrev stepped : tie.After-residuals-of → tie.After-after
+stepped c = c .before .before
+
+-- ---- needs
+
 returns : tie.Need-returns
 returns c =
-    let d = c .before in
-    let s = d .before .before .before in
-    let l = accepted-laid _ (s .pre .0) in
-    next-nowhere (jobOf (s .args .job .now)) _ (s .args .t2) (s .args .i) (d .before .action-of .ensures .acts)
-    (sym (d .applicable .ensures) ∙ not-true (d .applicable .result) (c .if1 .taken)) (l .few-constraints)
+    let t = c .before in
+    let a = acted t in
+    let s = start a in
+    let l = accepted-laid _ (s .pre .0) in (
+      next-nowhere (jobOf (s .args .job .now)) _ (s .args .t3) (s .args .i) (a .action-of .ensures .acts)
+          (sym (t .applicable .ensures) ∙ not-true (t .applicable .result) (c .if1 .taken)) (l .few-constraints),
+      s .pre .2,
+    )
 
 constraints-next-requires : tie.Need-constraints-next-requires
 constraints-next-requires c κs =
-    let s = c .before .before .before .before .before .before in
+    let s = start (acted (tested (stepped c))) in
     let l = accepted-laid _ (s .pre .0) in
-    (s .pre .0, omega arith)
+    (s .pre .0, omega arith, s .pre .2)
 
 returns-2 : tie.Need-returns-2
 returns-2 c =
-    let f = c .before .before .before in
-    let d = f .before .before in
-    let s = d .before .before .before in
-    let l = accepted-laid _ (s .pre .0) in
-    next-leads (jobOf (s .args .job .now)) _ (s .args .t2) (s .args .i) (d .before .action-of .ensures .acts)
-    (sym (d .applicable .ensures) ∙ not-false (d .applicable .result) (f .before .if1 .left)) (f .after .ensures)
-    (rw (c .before .before .residuals-of .ensures) at (c .before .constraints-next .ensures)) (c .unless-dead .ensures)
-    (length-constraints _) (omega arith)
+    let n = c .before .before .before in
+    let r = n .before in
+    let f = stepped r in
+    let t = tested f in
+    let a = acted t in
+    let s = start a in
+    let l = accepted-laid _ (s .pre .0) in (
+      next-leads (jobOf (s .args .job .now)) _ (s .args .t3) (s .args .i) (a .action-of .ensures .acts)
+          (sym (t .applicable .ensures) ∙ not-false (t .applicable .result) (f .before .if1 .left)) (f .after .ensures)
+          (rw (r .residuals-of .ensures) at (n .constraints-next .ensures .0)) (c .unless-dead .ensures)
+          (length-constraints _) (omega (arith, l .few-constraints, s .good)),
+      n .constraints-next .ensures .1,
+    )
 
 pub next-spec : {M : Type 1} → statement M
 next-spec =
@@ -47,4 +71,5 @@ next-spec =
     (λ c κs. search needs)
     constraints-next-requires
     (λ c κs. search needs)
+    (λ c. search needs)
     returns-2)

@@ -8,14 +8,24 @@ use Rattle.nodes.proofs.Hints.{carried}
 use Rattle.nodes.proofs.next_hints.Statement.{statement}
 use Rattle.nodes.proofs.next_hints.Tie as tie
 
+-- ---- places
+
+abbrev start : tie.After-hints-next-arg → tie.Start
+start c = c .before .before .before
+
+-- ---- needs
+
 hints-next-requires : tie.Need-hints-next-requires
-hints-next-requires c κs = let l = accepted-laid _ (c .before .pre .0) in (c .before .pre .0, omega arith)
+hints-next-requires c κs = let s = start c in let l = accepted-laid _ (s .pre .0) in (s .pre .0, omega arith, s .pre .2)
 
 returns : tie.Need-returns
 returns c =
-    let s = c .before .before in
-    let l = accepted-laid _ (s .pre .0) in
-    carried (jobOf (s .args .job .now)) _ (s .args .hints) _ (s .args .t3) (s .args .i) (c .hints-next .ensures) (length-hints _) (omega arith)
+    let n = c .before .before in
+    let s = start (n .before) in
+    let l = accepted-laid _ (s .pre .0) in (
+      carried (jobOf (s .args .job .now)) _ (s .args .hints) _ (s .args .t4) (s .args .i) (n .hints-next .ensures .0) (length-hints _) (omega arith),
+      n .hints-next .ensures .1,
+    )
 
 pub next-hints-spec : {M : Type 1} → statement M
-next-hints-spec = tie.close (tie.spec (λ c. search needs) hints-next-requires returns)
+next-hints-spec = tie.close (tie.spec (λ c. search needs) hints-next-requires (λ c. search needs) returns)

@@ -14,7 +14,7 @@ returns c = too-long _ _ _ (c .if1 .taken)
 returns-2 : tie.Need-returns-2
 returns-2 c =
     let s = c .before .before .before .before in
-    c .through .ensures ∙ through-right (jobOf (s .args .job .now)) (accepted-proper _ (s .pre)) (s .args .steps .now) (omega arith)
+    c .in-workspace .ensures ∙ through-right (jobOf (s .args .job .now)) (accepted-proper _ (s .pre)) (s .args .steps .now) (omega arith)
 
 pub read-through-spec : {M : Type 1} → statement M
 read-through-spec = tie.close (tie.spec returns (λ c κs. search needs) returns-2)

@@ -5,29 +5,70 @@ use borrow.Author.Needs.{needs}
 use Rattle.expansion.proofs.made.merged.Statement.{statement}
 use Rattle.expansion.proofs.made.merged.Tie as tie
 
+-- ---- places
+
+abbrev start : tie.After-hints-of-arg → tie.Start
+start c = c .before .before .before .before .before
+
+abbrev lent : tie.After-hints-of → tie.After-hints-of-arg
+lent c = c .before
+
+abbrev hinted : tie.After-met → tie.After-hints-of
+hinted c = c .before .before .before
+
+abbrev both : tie.After-same → tie.After-met
+both c = c .before
+
+abbrev held : tie.After-comes-first → tie.After-same
+held c = c .before
+
+-- where the arrival's path comes first
+abbrev won : tie.After-opened → tie.Then1
+won c = c .before
+
+abbrev won-by : tie.Then1 → tie.After-comes-first
+won-by c = c .before
+
+-- where the old one does
+abbrev lost : tie.After-opened2 → tie.Else1
+lost c = c .before
+
+abbrev lost-by : tie.Else1 → tie.After-comes-first
+lost-by c = c .before
+
+-- ---- needs
+
 hints-of-requires : tie.Need-hints-of-requires
 hints-of-requires c κs =
-    let s = c .before .before .before in
-    extends-open (s .pre .0 .1) (s .pre .1 .slot) (s .pre .1 .isOpen) (s .pre .1 .inside)
+    let s = start c in
+    (extends-open (s .pre .0 .1) (s .pre .1 .slot) (s .pre .1 .isOpen) (s .pre .1 .inside), s .pre .2)
 
 comes-first-requires : tie.Need-comes-first-requires
 comes-first-requires c κs =
-    let s = c .before .before .before .before .before .before in
+    let s = start (lent (hinted (both c))) in
     comparable (s .pre .0 .1) (s .pre .1)
 
 returns : tie.Need-returns
 returns c =
-    let o = c .before .before in
-    let m = o .before .before in
-    let s = m .before .before .before .before .before in
-    merged-new (s .pre .0 .1) (s .pre .1) (m .before .hints-of .ensures) (m .met .ensures) (c .opened .ensures) (o .comes-first .ensures) (c .before .if1 .taken)
+    let w = won c in
+    let o = won-by w in
+    let m = both (held o) in
+    let h = hinted m in
+    let s = start (lent h) in (
+      merged-new (s .pre .0 .1) (s .pre .1) (h .hints-of .ensures .0) (m .met .ensures) (c .opened .ensures) (o .comes-first .ensures) (w .if1 .taken),
+      h .hints-of .ensures .1,
+    )
 
 returns-2 : tie.Need-returns-2
 returns-2 c =
-    let o = c .before .before in
-    let m = o .before .before in
-    let s = m .before .before .before .before .before in
-    merged-old (s .pre .0 .1) (s .pre .1) (m .before .hints-of .ensures) (m .met .ensures) (c .opened2 .ensures) (o .comes-first .ensures) (c .before .if1 .left)
+    let w = lost c in
+    let o = lost-by w in
+    let m = both (held o) in
+    let h = hinted m in
+    let s = start (lent h) in (
+      merged-old (s .pre .0 .1) (s .pre .1) (h .hints-of .ensures .0) (m .met .ensures) (c .opened2 .ensures) (o .comes-first .ensures) (w .if1 .left),
+      h .hints-of .ensures .1,
+    )
 
 pub merged-spec : {M : Type 1} → statement M
 merged-spec =
@@ -38,5 +79,7 @@ merged-spec =
     comes-first-requires
     (λ c κs. search needs)
     (λ c κs. search needs)
+    (λ c. search needs)
     returns
+    (λ c. search needs)
     returns-2)

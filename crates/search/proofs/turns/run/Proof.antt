@@ -8,41 +8,69 @@ use borrow.Author.Needs.{needs}
 use Rattle.dijkstra.specs.Search.{turns}
 use Rattle.held.specs.Held.{sys, heldIn}
 use Rattle.held.specs.Running.{Idle}
-use Rattle.search.proofs.TurnLaws.{turn-again, turn-ends, turns-over}
+use Rattle.progression.specs.Workspace.{Workspace}
+use Rattle.search.proofs.TurnLaws.{turn-idle, turn-again, turn-ends, turns-over}
 use Rattle.search.proofs.turns.run.Statement.{statement}
 use Rattle.search.proofs.turns.run.Tie as tie
 
 abbrev Inv-loop : tie.InvT-loop
-Inv-loop job t₀ places n₀ left₀ t n left =
+Inv-loop job work₀ t₀ places n₀ left₀ work t n left =
     Idle job places n t × (turns (sys job) places left (heldIn job n t) ≡ turns (sys job) places (suc places) (heldIn job 1 t₀)) × (length t ≡ length t₀)
+    × Workspace job work × (length work ≡ length work₀)
 
 abbrev μ-loop : tie.MeasureT-loop
-μ-loop job t₀ places n₀ left₀ t n left = left
+μ-loop job work₀ t₀ places n₀ left₀ work t n left = left
+
+-- ---- places
+
+abbrev start : tie.At-loop Inv-loop μ-loop → tie.Start Inv-loop μ-loop
+start c = c .before .before .before .before
+
+abbrev looped : tie.After-turn Inv-loop μ-loop → tie.At-loop Inv-loop μ-loop
+looped c = c .before .before .before .before
+
+abbrev turned : tie.After-slice-known4 Inv-loop μ-loop → tie.After-turn Inv-loop μ-loop
+turned c = c .before .before .before .before
+
+-- ---- needs
 
 loop-holds : tie.Need-loop-holds Inv-loop μ-loop
 loop-holds c =
-    let s = c .before .before in
-    (s .pre, ap (λ (k : ℕ). turns (sys (s .args .job .now)) (s .args .places) k (heldIn (s .args .job .now) 1 (s .args .t .now))) (add-one (s .args .places)), refl)
+    let s = c .before .before .before in (
+      s .pre .0,
+      ap (λ (k : ℕ). turns (sys (s .args .job .now)) (s .args .places) k (heldIn (s .args .job .now) 1 (s .args .t .now))) (add-one (s .args .places)),
+      refl,
+      s .pre .1,
+      refl,
+    )
 
 loop-again : tie.Need-loop-again Inv-loop μ-loop
 loop-again c =
-    let x = c .before .before .before .before .before in
-    let l = x .before .before .before .loop in
-    let s = x .before .before .before .before .before .before .args in
-    let h = rw (c .before .m .given .1) at (x .turn .ensures) in
-    (h .0, turn-again (s .job .now) (s .places) (l .n) (l .t) (l .left) (l .left - 1) (l .inv .1) h (omega arith), omega arith)
+    let x = turned (c .before .before .before) in
+    let l = looped x .loop in
+    let s = start (looped x) .args in
+    let u = x .turn .last .1 .1 .0 in
+    let m = c .before .m .given in (
+      turn-idle (s .job .now) (s .places) (l .n) (l .t) u (x .turn .result) (m .0 .0) (x .turn .ensures .0) (m .1),
+      turn-again (s .job .now) (s .places) (l .n) (l .t) (l .left) (l .left - 1) (l .inv .1) u (x .turn .result) (m .0 .0) (x .turn .ensures .0) (m .1)
+          (omega arith),
+      search needs,
+      x .turn .ensures .1,
+      search needs,
+    )
 
 returns : tie.Need-returns Inv-loop μ-loop
 returns c =
-    let x = c .before .before .before .before .before in
-    let l = x .before .before .before .loop in
-    let s = x .before .before .before .before .before .before .args in
-    turn-ends (s .job .now) (s .places) (l .n) (l .t) (l .left) (l .left - 1) (l .inv .1) (x .turn .last .1 .0) (c .before .e .given .0 .0) (rw (c .before .e .given .1) at (x .turn .ensures)) (omega arith)
+    let x = turned (c .before .before .before) in
+    let l = looped x .loop in
+    let s = start (looped x) .args in
+    turn-ends (s .job .now) (s .places) (l .n) (l .t) (l .left) (l .left - 1) (l .inv .1) (x .turn .last .1 .1 .0) (x .turn .result)
+    (c .before .e .given .0 .0) (x .turn .ensures .0) (c .before .e .given .1) (omega arith)
 
 returns-2 : tie.Need-returns-2 Inv-loop μ-loop
 returns-2 c =
     let l = c .before .loop in
-    let s = c .before .before .before .before .args in
+    let s = start (c .before) .args in
     turns-over (s .job .now) (s .places) (l .n) (l .t) (l .left) 0 (l .inv .1) (omega arith)
 
 pub run-spec : {M : Type 1} → statement M
@@ -60,6 +88,8 @@ run-spec =
     loop-again
     (λ c. search needs)
     (λ c. search needs)
-    returns
     (λ c. search needs)
+    returns
+    (λ c. c .before .loop .inv .4)
+    (λ c. c .before .loop .inv .2)
     returns-2)

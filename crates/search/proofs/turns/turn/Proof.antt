@@ -6,19 +6,41 @@ use Rattle.search.proofs.TurnLaws.{nothing-ends}
 use Rattle.search.proofs.turns.turn.Statement.{statement}
 use Rattle.search.proofs.turns.turn.Tie as tie
 
+-- ---- places
+
+abbrev start : tie.After-least → tie.Start
+start c = c .before .before .before .before .before
+
+abbrev found : tie.After-i → tie.After-least
+found c = c .before .before
+
+abbrev nothing : tie.After-enum-told → tie.After-least
+nothing c = c .before .before
+
+-- ---- needs
+
 turn-at-requires : tie.Need-turn-at-requires
 turn-at-requires c κs =
-    let x = c .before .before .before .before in
-    let s = x .before .before .before .before in
-    let e = x .least .ensures in
-    let q = c .before .before .i .given .1 in
-    (s .pre, record { inside = least-inside (s .args .t .now) (s .args .n) _ _ e q; least = least-at (s .args .job .now) (s .args .n) (s .args .t .now) e q })
+    let i = c .before .before .before in
+    let x = found i in
+    let s = start x in (
+      s .pre .0,
+      record {
+        inside = least-inside (s .args .t .now) (s .args .n) _ _ (x .least .ensures) (i .i .given .1);
+        least = least-at (s .args .job .now) (s .args .n) (s .args .t .now) (x .least .ensures) (i .i .given .1);
+      },
+      s .pre .1,
+    )
 
 returns-2 : tie.Need-returns-2
 returns-2 c =
-    let x = c .before .before .before .before in
-    let s = x .before .before .before .before .args in
-    nothing-ends (s .job .now) (s .places) (s .n) (s .t .now) (least-nothing (s .job .now) (s .n) (s .t .now) (x .least .ensures) (c .before .before .enum-told .given .1)) (c .refusal .ensures)
+    let e = c .before .before in
+    let x = nothing e in
+    let s = start x .args in (
+      nothing-ends (s .job .now) (s .places) (s .n) (s .t .now)
+          (least-nothing (s .job .now) (s .n) (s .t .now) (x .least .ensures) (e .enum-told .given .1)) (c .refusal .ensures),
+      start x .pre .1,
+    )
 
 pub turn-spec : {M : Type 1} → statement M
 turn-spec =
@@ -29,6 +51,7 @@ turn-spec =
     turn-at-requires
     (λ c. search needs)
     (λ c κs. search needs)
+    (λ c. search needs)
     (λ c. search needs)
     (λ c. search needs)
     (λ c. search needs)

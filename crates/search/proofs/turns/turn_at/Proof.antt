@@ -4,20 +4,38 @@ use Rattle.search.proofs.TurnLaws.{idle-room, idle-chained, none-takes,
 use Rattle.search.proofs.turns.turn_at.Statement.{statement}
 use Rattle.search.proofs.turns.turn_at.Tie as tie
 
+-- ---- places
+
+abbrev start : tie.After-cost → tie.Start
+start c = c .before .before .before .before .before
+
+abbrev cost : tie.After-steps → tie.After-cost
+cost c = c .before .before
+
+abbrev steps : tie.After-first-goal → tie.After-steps
+steps c = c .before .before
+
+-- ---- needs
+
 first-goal-requires : tie.Need-first-goal-requires
-first-goal-requires c κs = let p = c .before .before .before .before .before .before .before .pre in (p .0 .1 .accepted, idle-room (p .0), idle-chained (p .0))
+first-goal-requires c κs = let p = start (cost (c .before)) .pre in (p .0 .1 .accepted, idle-room (p .0), idle-chained (p .0))
 
 take-requires : tie.Need-take-requires
 take-requires c κs =
-    let x = c .before .before .before in
-    let p = x .before .before .before .before .before .before .before .before .pre in
-    none-takes (p .0) (p .1) _ _ (x .before .before .before .before .cost .ensures .0) (x .before .before .steps .ensures .0) _ (x .first-goal .ensures) (c .before .enum-told .given .1)
+    let e = c .before .before in
+    let g = e .before .before in
+    let s = steps g in
+    let k = cost s in
+    let p = start k .pre in
+    (none-takes (p .0) (p .1) _ _ (k .cost .ensures .0) (s .steps .ensures .0) _ (g .first-goal .ensures) (e .enum-told .given .1), p .2)
 
 returns : tie.Need-returns
 returns c =
-    let x = c .before .before .before in
-    let p = x .before .before .before .before .before .before .before .before .pre in
-    goal-ends (p .0) (p .1) _ _ (x .before .before .before .before .cost .ensures .0) (x .before .before .steps .ensures .0) _ (x .first-goal .ensures) _ (c .before .g .given .1)
+    let g = c .before .before .before in
+    let s = steps g in
+    let k = cost s in
+    let p = start k .pre in
+    (goal-ends (p .0) (p .1) _ _ (k .cost .ensures .0) (s .steps .ensures .0) _ (g .first-goal .ensures) _ (c .before .g .given .1), p .2)
 
 pub turn-at-spec : {M : Type 1} → statement M
 turn-at-spec =
@@ -31,5 +49,6 @@ turn-at-spec =
     take-requires
     (λ c. search needs)
     returns
+    (λ c. search needs)
     (λ c. search needs)
     (λ c. search needs))
