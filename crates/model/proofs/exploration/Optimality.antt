@@ -51,11 +51,11 @@ module _ (S : System) where
             subst (λ (z : S .Hints). hl .meets n z as′ ≡ true) (p .1) (kept as′ (n, t, s, subst (λ (z : Key). Run S n z as′ t e) (sym (p .0)) r, g) n s)
         entry-kept h l (inr a) = (hl .meets-made n h as′ (x .proper l)) .1 (λ s made. (x .conjoined (away S x l (a .1)) l s) .1 (λ f b. arrival-kept f b s made))
 
-      -- The rest of a run of the least key meets the hint residuals of each entry on it,
+      -- The rest of a run of the least key meets the hint residuals of each entry on it.
       hints-kept : (k : Key) → KeptAt k
       hints-kept = key-ind KeptAt (λ k ih n h l as′ t r g. entry-kept k ih n as′ t r g h l (x .arrived l))
 
-      -- so that no entry on it is cut.
+      -- No entry on a run of the least key is cut.
       uncut-on : {n : S .Node} {k : Key} {h : S .Hints} {as′ : List ℕ} {t : S .Node} → L n k h → Run S n k as′ t e → S .goal t ≡ true → S .cut h ≡ false
       uncut-on {n} {k} {h} {as′} {t} l r g = go (S .cut h) refl
         where

@@ -8,18 +8,17 @@ use native.Mathlib.Omega.{arith}
 use lib.Dec.{leb}
 use lib.ListN.{length, length-append}
 use borrow.Author.Tests.{leb-true, leb-false}
 use Rattle.model.specs.declared.Refusal.{Refusal}
 use Rattle.model.specs.declared.Verdict.{Verdict}
 use Rattle.model.specs.declared.Verdict.the-variants.{Fine, Bad}
 use Rattle.model.specs.declared.Searched.the-variants.{Planned, Refused}
 use Rattle.model.specs.Verdict.{refusal}
 use Rattle.model.specs.calls.Search as calls
-use Rattle.model.specs.calls.Search.{SearchEnd, slotsIn, cleared, writtenOver, ruled, tooSmall, SearchGives}
+use Rattle.model.specs.calls.Search.{SearchEnd, searchEnd, slotsIn, cleared, writtenOver, ruled, tooSmall, SearchGives, stepsIn}
 use Rattle.model.specs.exploration.Equations.{Answer, plan, no-plan}
 use Rattle.model.specs.job.Layout.{jobOf}
 use Rattle.model.specs.job.Decoding.{jobVerdict}
 use Rattle.model.specs.search.JobSystem.{solveJob, reachedCount}
-use Rattle.search.specs.Given.{searchEnd, stepsIn}
 
 module _ (job table buffer : List ℕ) where
   pub data Way : SearchEnd → Type 0 where
@@ -27,10 +26,10 @@ module _ (job table buffer : List ℕ) where
     no-job : {r : Refusal} → jobVerdict job ≡ Bad r → Way (searchEnd (Refused r) table buffer)
     -- the job has no plan: 11 or 12
     none : jobVerdict job ≡ Fine → {k : ℕ} → solveJob (jobOf job) ≡ no-plan k → Way (searchEnd (Refused (refusal k 0)) (cleared table) buffer)
-    -- it has one, which the buffer holds,
+    -- the job has a plan, which the buffer holds
     whole : jobVerdict job ≡ Fine → {c : ℕ} {p : List ℕ} → solveJob (jobOf job) ≡ plan c p → length p ≤ length buffer
         → Way (searchEnd (Planned c (length p)) (cleared table) (writtenOver p buffer))
-    -- or for which it is too short: 13
+    -- the job has a plan, for which the buffer is too short: 13
     short : jobVerdict job ≡ Fine → {c : ℕ} {p : List ℕ} → solveJob (jobOf job) ≡ plan c p → length buffer < length p
         → Way (searchEnd (Refused (refusal 13 (length p))) (cleared table) buffer)
     -- the table is too small: 10
