@@ -1,11 +1,13 @@
 -- What the arrays of the code stand for in the model, and what the functions promise of them.
 use mathlib.Core.Path.{_≡_}
-use Prim.Native.Nat.{ℕ, _<_}
+use Prim.Native.Nat.{ℕ, zero, suc, _<_}
 use mathlib.Core.Bool.{true, false}
 use mathlib.Core.Option.{Option, none, some}
-use mathlib.Core.List.{List, _∷_}
-use lib.ListN.{take, drop, getD}
-use Rattle.model.specs.job.Job.{Job, actionOf}
+use mathlib.Core.List.{List, [], _∷_}
+use lib.ListN.{length, take, drop, getD}
+use Rattle.model.specs.Bits.{bit}
+use Rattle.model.specs.job.Job.{Action, Job, actionOf}
+use Rattle.model.specs.task.State.{applicable}
 use Rattle.model.specs.search.Node.{Node}
 use Rattle.model.specs.search.JobSystem.{alive}
 use Rattle.task.specs.declared.Action as code
@@ -17,7 +19,7 @@ use Rattle.nodes.specs.declared.Reached.{Reached}
 unfoldable pub nodeIs : ℕ → List ℕ → Node
 nodeIs n node = record { state = getD node 0 0; residuals = take n (drop 1 node) }
 
--- Nothing stands behind the last constraint, so equal nodes are equal arrays.
+-- Nothing stands after the last constraint, so equal nodes are equal arrays.
 abbrev pub Clean : ℕ → List ℕ → Type 0
 Clean n node = node ≡ getD node 0 0 ∷ padded (take n (drop 1 node))
 
@@ -25,7 +27,7 @@ Clean n node = node ≡ getD node 0 0 ∷ padded (take n (drop 1 node))
 unfoldable pub hintsIs : ℕ → List ℕ → List ℕ
 hintsIs n hints = take n hints
 
--- Nothing stands behind the last hint.
+-- Nothing stands after the last hint.
 abbrev pub CleanHints : ℕ → List ℕ → Type 0
 CleanHints n hints = hints ≡ padded (take n hints)
 
@@ -33,6 +35,16 @@ CleanHints n hints = hints ≡ padded (take n hints)
 unfoldable pub reachedIs : ℕ → Reached → Option Node
 unfolding nodeIs
 reachedIs n r = elim (r .alive) [ true ↦ some (nodeIs n (r .node)) | false ↦ none ]
+
+-- n actions of a job from action a on; none does anything after the last
+unfoldable pub actionsFrom : Job → ℕ → ℕ → List Action
+unfolding actionOf
+actionsFrom j a zero = []
+actionsFrom j a (suc n) = actionOf j a ∷ actionsFrom j (suc a) n
+
+-- Action i is applicable at a node.
+abbrev pub Applies : Job → Node → ℕ → Type 0
+Applies j m i = applicable (actionOf j i) (m .state) ≡ true
 
 -- ---- what the functions promise
 
@@ -44,6 +56,10 @@ pub record Acts (j : Job) (i : ℕ) (r : code.Action) : Type 0 where
 pub record Costs (j : Job) (i r : ℕ) : Type 0 where
   pub costs : r ≡ actionOf j i .cost
   pub cheap : r < 65536
+
+-- Bit i of r tells whether action i is applicable at a node.
+abbrev pub Chooses : Job → Node → ℕ → Type 0
+Chooses j m r = (i : ℕ) → i < length (j .actions) → bit r i ≡ applicable (actionOf j i) (m .state)
 
 -- A state and residuals were put together.
 pub record Made (n facts : ℕ) (rs : List ℕ) (r : Reached) : Type 0 where
