@@ -57,15 +57,6 @@ pub fn get64(s: &[u8], at: usize) -> u64
     eight_bytes(s, at)
 }
 
-// Writes a 16-bit number at an offset.
-pub fn put16(t: &mut [u8], at: usize, v: u64)
-    requires { ⌜ at + 2 ≤ length (now t) ⌝ }
-    ensures { λ _. ⌜ now (t .exit) ≡ sets (now (t .entry)) at (digits 2 v) ⌝ }
-{
-    t[at] = low(v);
-    t[at + 1] = low(v / 256);
-}
-
 // Writes a 64-bit number at an offset.
 pub fn put64(t: &mut [u8], at: usize, v: u64)
     requires { ⌜ at + 8 ≤ length (now t) ⌝ }
