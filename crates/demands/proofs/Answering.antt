@@ -2,7 +2,7 @@
 use mathlib.Core.Path.{_≡_, refl, sym, ap, _∙_, subst}
 use mathlib.Core.Bool.{Bool, true, false}
 use mathlib.Core.Logic.{inl, inr}
-use mathlib.Core.List.{List, [], _++_}
+use mathlib.Core.List.{List, _++_}
 use Prim.Native.Nat.{ℕ, _*_, _/_, _≤_, _<_}
 use native.Mathlib.Omega.{arith}
 use native.Mathlib.Decide.{decLt}
@@ -32,6 +32,7 @@ use Rattle.demands.specs.Demand1.{Accepted}
 use Rattle.demands.specs.Demand2.{AllowedPlan, Bytes}
 use Rattle.demands.specs.Demand3.{NoPlan, Other, IsPlan, Handed, Told, Result}
 use Rattle.demands.specs.Demand3.{plan-handed, table-small, some-cut, none-cut, plan-longer, AnswersJob, PartIs}
+use Rattle.demands.proofs.Results.{plan-not-none, planned-not-refused, refused-not-planned, same-refused}
 use Rattle.demands.proofs.Numbered.{job-numbered}
 use Rattle.demands.proofs.CostSums.{cost-at-most}
 use Rattle.demands.proofs.ReadingThrough.{allowed-is-plan}
@@ -47,30 +48,21 @@ module _ (job table buffer : List ℕ) where
 
   -- ---- results that are the same
 
-  not-planned : {A : Type 0} {c n : ℕ} {r : Refusal} → Planned c n ≡ Refused r → A
-  not-planned e = let z : _≡_ {A = ℕ} 0 1 = cc in absurd (omega arith)
-
-  not-refused : {A : Type 0} {c n : ℕ} {r : Refusal} → Refused r ≡ Planned c n → A
-  not-refused e = let z : _≡_ {A = ℕ} 0 1 = cc in absurd (omega arith)
-
-  same-refusal : {r q : Refusal} → Refused r ≡ Refused q → r ≡ q
-  same-refusal e = cc
-
   same-number : {k x p q : ℕ} → Refused (refusal k p) ≡ Refused (refusal x q) → k ≡ x
-  same-number {k} {x} {p} {q} e = ap (λ (r : Refusal). r .number) (same-refusal {r = refusal k p} {q = refusal x q} e)
+  same-number {k} {x} {p} {q} e = ap (λ (r : Refusal). r .number) (same-refused {r = refusal k p} {q = refusal x q} e)
 
   same-place : {k x p q : ℕ} → Refused (refusal k p) ≡ Refused (refusal x q) → p ≡ q
-  same-place {k} {x} {p} {q} e = ap (λ (r : Refusal). r .place) (same-refusal {r = refusal k p} {q = refusal x q} e)
+  same-place {k} {x} {p} {q} e = ap (λ (r : Refusal). r .place) (same-refused {r = refusal k p} {q = refusal x q} e)
 
   same-answer : {c d : ℕ} {p q : List ℕ} → solveJob j ≡ plan c p → solveJob j ≡ plan d q → (c ≡ d) × (p ≡ q)
   same-answer {c} {d} {p} {q} e f = let a : c ≡ d = cc in let b : p ≡ q = cc in (a, b)
 
   not-both : {A : Type 0} {c k : ℕ} {p : List ℕ} → solveJob j ≡ plan c p → solveJob j ≡ no-plan k → A
-  not-both e f = let z : _≡_ {A = ℕ} 0 1 = cc in absurd (omega arith)
+  not-both e f = plan-not-none (sym e ∙ f)
 
   -- A refusal of bytes that are no job has none of the numbers 10 to 13.
   too-early : {A : Type 0} {q : Refusal} {k p : ℕ} → jobVerdict job ≡ Bad q → Refused q ≡ Refused (refusal k p) → 10 ≤ k → A
-  too-early {q = q} {k} {p} b h l = absurd (omega (arith, job-numbered job q b .1, ap (λ (r : Refusal). r .number) (same-refusal {q = refusal k p} h)))
+  too-early {q = q} {k} {p} b h l = absurd (omega (arith, job-numbered job q b .1, ap (λ (r : Refusal). r .number) (same-refused {q = refusal k p} h)))
 
   no-plan-late : {k : ℕ} → NoPlan k → 10 ≤ k
   no-plan-late (inl e) = omega arith
@@ -119,10 +111,10 @@ module _ (job table buffer : List ℕ) where
         size = ap length front ∙ en;
         rest = drop-at p (drop (length p) buffer) n en ∙ ap (λ (k : ℕ). drop k buffer) en;
       }
-  handed (no-job b) h = not-refused h
-  handed (none fine s) h = not-refused h
-  handed (short fine s l) h = not-refused h
-  handed (small fine l) h = not-refused h
+  handed (no-job b) h = refused-not-planned h
+  handed (none fine s) h = refused-not-planned h
+  handed (short fine s l) h = refused-not-planned h
+  handed (small fine l) h = refused-not-planned h
 
   slots-most : slotsIn table ≤ 65_536
   unfolding slotsIn
@@ -150,7 +142,7 @@ module _ (job table buffer : List ℕ) where
   none-there : {e : SearchEnd} → Way job table buffer e → {k p : ℕ} → NoPlan k → e .result ≡ Refused (refusal k p) → Accepted job × (solveJob j ≡ no-plan k)
   none-there (no-job b) n h = too-early b h (no-plan-late n)
   none-there (none f s) n h = (f, s ∙ ap no-plan (same-number h))
-  none-there (whole f s l) n h = not-planned h
+  none-there (whole f s l) n h = planned-not-refused h
   none-there (short f s l) (inl d) h = absurd (omega (arith, same-number h))
   none-there (short f s l) (inr d) h = absurd (omega (arith, same-number h))
   none-there (small f l) (inl d) h = absurd (omega (arith, same-number h))
@@ -170,14 +162,14 @@ module _ (job table buffer : List ℕ) where
   told : {e : SearchEnd} → Way job table buffer e → {n : ℕ} → e .result ≡ Refused (refusal 13 n) → Told job buffer n
   told (no-job b) h = too-early b h (omega arith)
   told (none f s) h = other-number f s h not-thirteen
-  told (whole f s l) h = not-planned h
+  told (whole f s l) h = planned-not-refused h
   told (short f {c} {p} s l) h = record { cost = c; steps = p; plan-is = is-plan f s; size = same-place h; longer = omega (arith, same-place h) }
   told (small f l) h = absurd (omega (arith, same-number h))
 
   crowded : {e : SearchEnd} → Way job table buffer e → {p : ℕ} → e .result ≡ Refused (refusal 10 p) → Accepted job × (slotsIn table < reachedCount j)
   crowded (no-job b) h = too-early b h (omega arith)
   crowded (none f s) h = other-number f s h not-ten
-  crowded (whole f s l) h = not-planned h
+  crowded (whole f s l) h = planned-not-refused h
   crowded (short f s l) h = absurd (omega (arith, same-number h))
   crowded (small f l) h = (f, l)
 

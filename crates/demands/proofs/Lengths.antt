@@ -21,6 +21,7 @@ use Rattle.model.proofs.exploration.Answered.{solve-answers, reached-at-least}
 use Rattle.model.proofs.job.Accepted.{ProperJob}
 use Rattle.model.proofs.job.SystemLaws.{job-laws}
 use Rattle.model.proofs.job.FiniteNodes.{job-finite}
+use Rattle.demands.proofs.Results.{none-not-plan}
 
 module _ (S : System) (laws : Laws S) {L : Entries S} (x : Explores S unbounded L) where
   -- the node is reached by at most n steps
@@ -75,8 +76,8 @@ module _ (j : Job) (proper : ProperJob j) where
       let a : d ≡ c = cc in
       let b : q ≡ p = cc in
       subst (λ (z : ℕ). Plan S (Of S (reached S)) z p) a (subst (Plan S (Of S (reached S)) d) b y)
-  plan-of (some-cut g c) e = let z : _≡_ {A = ℕ} 0 1 = cc in absurd (omega arith)
-  plan-of (none-cut g c) e = let z : _≡_ {A = ℕ} 0 1 = cc in absurd (omega arith)
+  plan-of (some-cut g c) e = none-not-plan e
+  plan-of (none-cut g c) e = none-not-plan e
 
   pub plan-short : {c : ℕ} {p : List ℕ} → solveJob j ≡ plan c p → length p < reachedCount j
   unfolding solveJob reachedCount

@@ -1,4 +1,5 @@
 -- The demands hold of what the contracts promise.
+pub mod Results
 pub mod Numbered
 pub mod Refusing
 pub mod RuleReading

@@ -25,13 +25,7 @@ use Rattle.model.specs.task.Plan.{stateAfter, worlds}
 use Rattle.model.specs.calls.Validate.{lengthVerdict, stepVerdict, goalVerdict, constraintVerdict, stepsVerdict}
 use Rattle.model.specs.calls.WriteBack.{ruleVerdict}
 use Rattle.demands.specs.Demand1.{Between}
-
--- A fine check refuses with nothing.
-fine-not-bad : {A : Type 0} {r : Refusal} → Fine ≡ Bad r → A
-fine-not-bad e = let z : _≡_ {A = ℕ} 0 1 = cc in absurd (omega arith)
-
-same-refusal : {r q : Refusal} → Bad q ≡ Bad r → q ≡ r
-same-refusal e = cc
+use Rattle.demands.proofs.Results.{fine-not-bad, same-bad}
 
 module _ (P : ℕ → Type 0) where
   -- A check refuses only with numbers of which P holds.
@@ -41,7 +35,7 @@ module _ (P : ℕ → Type 0) where
   pub with-number : (b : Bool) (n p : ℕ) → P n → Numbered (unless b n p)
   unfolding unless
   with-number true n p h r e = fine-not-bad e
-  with-number false n p h r e = subst (λ (x : Refusal). P (x .number)) (same-refusal e) h
+  with-number false n p h r e = subst (λ (x : Refusal). P (x .number)) (same-bad e) h
 
   pub or-else : (u v : Verdict) → Numbered u → Numbered v → Numbered (orElse u v)
   unfolding orElse
@@ -62,12 +56,12 @@ module _ (P : ℕ → Type 0) (four : P 4) (five : P 5) where
     where
       go : (qs : List Part) → Numbered P (elim qs as (λ x. Verdict) [ [] ↦ Fine | p ∷ qs ↦ Bad (record { number = 5; place = o + p .position }) ])
       go [] r e = fine-not-bad e
-      go (q ∷ qs) r e = subst (λ (x : Refusal). P (x .number)) (same-refusal e) five
+      go (q ∷ qs) r e = subst (λ (x : Refusal). P (x .number)) (same-bad e) five
 
   pub formula-numbered : (o : ℕ) (x : Parsed) → Numbered P (formulaVerdict o x)
   unfolding formulaVerdict
   formula-numbered o (formula φ n) = parts-numbered o (partsOf φ)
-  formula-numbered o (wrong p) = λ r e. subst (λ (x : Refusal). P (x .number)) (same-refusal e) four
+  formula-numbered o (wrong p) = λ r e. subst (λ (x : Refusal). P (x .number)) (same-bad e) four
 
 -- ---- jobs, step lists, and rules to write back
 

@@ -1,9 +1,10 @@
 -- Demand 2, the read-through: what passes, and what it gives.
 use mathlib.Core.Path.{_≡_, refl, sym, _∙_, subst}
-use mathlib.Core.Bool.{Bool, true, false, false≢true}
+use mathlib.Core.Bool.{Bool, true, false≢true}
 use mathlib.Core.Logic.{_↔_}
-use mathlib.Core.List.{List, [], _∷_}
-use Prim.Native.Nat.{ℕ, zero, suc, _*_, _^_, _≤_, _<_}
+use mathlib.Core.List.{List}
+use Prim.Native.Nat.{ℕ, _*_, _^_, _≤_, _<_}
+use native.Mathlib.Decide.{decLt}
 use native.Mathlib.Omega.{arith}
 use native.Mathlib.Nat.{lt-of-lt-of-le}
 use lib.ListN.{length, getD}
@@ -11,7 +12,7 @@ use lib.Pow.{pow-mono}
 use Rattle.model.specs.declared.Constant.the-variants.{False}
 use Rattle.model.specs.declared.Verdict.{Verdict}
 use Rattle.model.specs.declared.Verdict.the-variants.{Fine, Bad}
-use Rattle.model.specs.declared.Validated.the-variants.{Passed, Refused}
+use Rattle.model.specs.declared.Validated.the-variants.{Passed}
 use Rattle.model.specs.Bits.{bit, bitsOf}
 use Rattle.model.specs.Verdict.{orElse}
 use Rattle.model.specs.logic.Formula.{Formula, constant}
@@ -22,8 +23,7 @@ use Rattle.model.specs.job.Layout.{jobOf}
 use Rattle.model.specs.job.Decoding.{jobVerdict}
 use Rattle.model.specs.task.Plan.{worlds, allowed, costOf}
 use Rattle.model.specs.calls.Validate.{stepsVerdict, hintBits, validated}
-use Rattle.model.proofs.bits.Bits.{bit-zero}
-use Rattle.model.proofs.bits.BitsOf.{bitsOf-lt, bitsOf-head, bitsOf-tail}
+use Rattle.model.proofs.bits.BitsOf.{bitsOf-lt, bitsOf-at, bitsOf-past}
 use Rattle.model.proofs.exploration.Each.{all-at, all-mem}
 use Rattle.model.proofs.logic.SatLaws.{sat-holds}
 use Rattle.model.proofs.job.Accepted.{accepted-proper}
@@ -31,6 +31,7 @@ use Rattle.model.proofs.job.PlanLaws.{allHold-each, allowed-split}
 use Rattle.model.proofs.job.ReadThrough.{validated-passes}
 use Rattle.demands.specs.Demand1.{Accepted}
 use Rattle.demands.specs.Demand2.{AllowedPlan, ReadsThrough}
+use Rattle.demands.proofs.Results.{refused-not-passed}
 use Rattle.demands.proofs.CostSums.{cost-at-most}
 
 module _ (j : Job) (p : List ℕ) where
@@ -62,12 +63,11 @@ module _ (j : Job) (p : List ℕ) where
 
 -- Bit i of a list's tests is the test of element i, where there is one.
 bits-of : {A : Type 0} (f : A → Bool) (d : A) (xs : List A) (i : ℕ) → (bit (bitsOf f xs) i ≡ true) ↔ ((i < length xs) × (f (getD xs i d) ≡ true))
-unfolding bitsOf
-bits-of f d [] i = (λ h. absurd (false≢true (sym (bit-zero i) ∙ h)), λ h. absurd (omega (arith, h .0)))
-bits-of f d (x ∷ xs) zero = (λ h. (omega arith, sym (bitsOf-head f x xs) ∙ h), λ h. bitsOf-head f x xs ∙ h .1)
-bits-of f d (x ∷ xs) (suc i) =
-    let r = bits-of f d xs i in
-    (λ h. let y = r .0 (sym (bitsOf-tail f x xs i) ∙ h) in (omega (arith, y .0), y .1), λ h. bitsOf-tail f x xs i ∙ r .1 (omega (arith, h .0), h .1))
+bits-of f d xs i = go (decLt i (length xs))
+  where
+    go : Dec (i < length xs) → (bit (bitsOf f xs) i ≡ true) ↔ ((i < length xs) × (f (getD xs i d) ≡ true))
+    go (yes l) = (λ h. (l, sym (bitsOf-at f d xs i l) ∙ h), λ h. bitsOf-at f d xs i l ∙ h .1)
+    go (no l) = (λ h. absurd (false≢true (sym (bitsOf-past f xs i (omega arith)) ∙ h)), λ h. absurd (l (h .0)))
 
 module _ (job p : List ℕ) where
   abbrev j : Job
@@ -84,7 +84,7 @@ module _ (job p : List ℕ) where
           let ec : c ≡ costOf j p = cc in
           let eb : b ≡ hintBits j p = cc in
           (ec, eb)
-      go (Bad r) e = absurd (let f : Refused r ≡ Passed c b = rw (e, validated) at h in let z : _≡_ {A = ℕ} 0 1 = cc in omega arith)
+      go (Bad r) e = refused-not-passed {r = r} (rw (e, validated) at h)
 
   -- So it is an allowed plan of an accepted job, and not too long.
   good : {c b : ℕ} → validated job p ≡ Passed c b → Accepted job × (length p ≤ 65_535) × (allowed j p ≡ true)

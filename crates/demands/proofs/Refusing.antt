@@ -29,20 +29,15 @@ use Rattle.model.proofs.job.VerdictLaws.{bad-not-fine}
 use Rattle.model.proofs.calls.Ways.{Way, no-job, none, whole, short, small, way}
 use Rattle.demands.specs.Demand1.{Accepted, Between, SearchRefuses, ReadThroughRefuses, RuleNumber, WriteBackRefuses}
 use Rattle.demands.specs.Demand1.{SearchAnswer, ValidateAnswer, WriteAnswer}
+use Rattle.demands.proofs.Results.{planned-not-refused, same-refused, passed-not-refused, written-not-refused}
 use Rattle.demands.proofs.Numbered.{job-numbered, steps-numbered, rule-numbered}
 
 -- ---- a search
 
 module _ (job table buffer : List ℕ) where
-  -- the number of a refusal is that of a result that is the same
-  told : {r q : Refusal} → Refused q ≡ Refused r → q ≡ r
-  told e = cc
-
-  not-planned : {A : Type 0} {c n : ℕ} {r : Refusal} → Planned c n ≡ Refused r → A
-  not-planned e = let z : _≡_ {A = ℕ} 0 1 = cc in absurd (omega arith)
-
+  -- What holds of a refusal's number holds of that of a result that is the same.
   as-number : {r q : Refusal} (P : ℕ → Type 0) → Refused q ≡ Refused r → P (q .number) → P (r .number)
-  as-number P e h = subst (λ (x : Refusal). P (x .number)) (told e) h
+  as-number P e h = subst (λ (x : Refusal). P (x .number)) (same-refused e) h
 
   -- Of an accepted job the numbers are 10 to 13.
   late : {e : SearchEnd} → Way job table buffer e → Accepted job → {r : Refusal} → e .result ≡ Refused r → Between 10 13 (r .number)
@@ -52,7 +47,7 @@ module _ (job table buffer : List ℕ) where
       go : (k ≡ 11) ⊎ (k ≡ 12) → Between 10 13 k
       go (inl e) = (omega arith, omega arith)
       go (inr e) = (omega arith, omega arith)
-  late (whole f s l) fine h = not-planned h
+  late (whole f s l) fine h = planned-not-refused h
   late (short f s l) fine h = as-number (Between 10 13) h (omega arith, omega arith)
   late (small f l) fine h = as-number (Between 10 13) h (omega arith, omega arith)
 
@@ -66,14 +61,14 @@ module _ (job table buffer : List ℕ) where
   either : {e : SearchEnd} → Way job table buffer e → {r : Refusal} → e .result ≡ Refused r → Between 1 5 (r .number) ⊎ Between 10 13 (r .number)
   either (no-job {r = q} b) h = inl (as-number (Between 1 5) h (job-numbered job q b))
   either (none f s) h = inr (late (none f s) f h)
-  either (whole f s l) h = not-planned h
+  either (whole f s l) h = planned-not-refused h
   either (short f s l) h = inr (late (short f s l) f h)
   either (small f l) h = inr (late (small f l) f h)
 
   kept : {e : SearchEnd} → Way job table buffer e → {r : Refusal} → e .result ≡ Refused r → e .plan ≡ buffer
   kept (no-job b) h = refl
   kept (none f s) h = refl
-  kept (whole f s l) h = not-planned h
+  kept (whole f s l) h = planned-not-refused h
   kept (short f s l) h = refl
   kept (small f l) h = refl
 
@@ -107,9 +102,6 @@ module _ (job table buffer : List ℕ) where
 -- ---- a read-through
 
 module _ (job p : List ℕ) where
-  passed-not : {A : Type 0} {c b : ℕ} {r : Refusal} → Passed c b ≡ NotPassed r → A
-  passed-not e = let z : _≡_ {A = ℕ} 0 1 = cc in absurd (omega arith)
-
   -- The result goes by the two verdicts.
   by-verdicts : (u v : Verdict) → jobVerdict job ≡ u → stepsVerdict (jobOf job) p ≡ v → ReadThroughRefuses job (validated job p)
   unfolding validated orElse
@@ -131,9 +123,9 @@ module _ (job p : List ℕ) where
       }
   by-verdicts Fine Fine eu ev =
       record {
-        numbers = λ h. passed-not (rw (eu, validated, ev) at h);
+        numbers = λ h. passed-not-refused (rw (eu, validated, ev) at h);
         not-accepted = λ h. absurd (bad-not-fine (sym h ∙ eu));
-        accepted = λ fine h. passed-not (rw (eu, validated, ev) at h);
+        accepted = λ fine h. passed-not-refused (rw (eu, validated, ev) at h);
       }
 
   pub read-through-refuses : ReadThroughRefuses job (validated job p)
@@ -142,15 +134,12 @@ module _ (job p : List ℕ) where
 -- ---- writing back
 
 module _ (v a : ℕ) (rule buffer : List ℕ) where
-  written-not : {A : Type 0} {n : ℕ} {r : Refusal} → Written n ≡ NotWritten r → A
-  written-not e = let z : _≡_ {A = ℕ} 0 1 = cc in absurd (omega arith)
-
   into-refuses : (out : List ℕ) → WriteBackRefuses buffer (into out buffer)
   unfolding into
   into-refuses out = go (leb (length out) (length buffer)) refl
     where
       go : (b : Bool) → leb (length out) (length buffer) ≡ b → WriteBackRefuses buffer (into out buffer)
-      go true e = record { numbers = λ h. written-not (rw (e, into) at h); buffer-kept = λ h. written-not (rw (e, into) at h) }
+      go true e = record { numbers = λ h. written-not-refused (rw (e, into) at h); buffer-kept = λ h. written-not-refused (rw (e, into) at h) }
       go false e =
           let is : into out buffer ≡ writeEnd (NotWritten (refusal 13 (length out))) buffer = rw (e, into) in
           record {

@@ -6,11 +6,12 @@ use Prim.Native.Nat.{ℕ}
 use native.Mathlib.Omega.{arith}
 use Rattle.model.specs.job.Job.{Job}
 use Rattle.model.specs.task.Plan.{allowed}
-use Rattle.model.specs.exploration.Key.{Key, extend}
+use Rattle.model.specs.exploration.Key.{Key}
 use Rattle.model.specs.exploration.System.{System}
-use Rattle.model.specs.exploration.Equations.{unbounded, Answer, no-plan, Entries, Arrives, Explores, NoGoal, SomeCut, Answers, with-plan, some-cut, none-cut}
+use Rattle.model.specs.exploration.Equations.{unbounded, Answer, no-plan, Entries, Explores, NoGoal, SomeCut, Answers, with-plan, some-cut, none-cut}
 use Rattle.model.specs.exploration.Explore.{Of, reached}
 use Rattle.model.specs.search.JobSystem.{systemOf, solveJob}
+use Rattle.model.proofs.exploration.Stepping.{arrives-by}
 use Rattle.model.proofs.exploration.Runs.{Run, stop, on}
 use Rattle.model.proofs.exploration.Solves.{reached-solves}
 use Rattle.model.proofs.exploration.Answered.{solve-answers}
@@ -18,6 +19,7 @@ use Rattle.model.proofs.job.Accepted.{ProperJob}
 use Rattle.model.proofs.job.SystemLaws.{job-laws}
 use Rattle.model.proofs.job.FiniteNodes.{job-finite}
 use Rattle.model.proofs.job.PlansAsRuns.{allowed-run}
+use Rattle.demands.proofs.Results.{plan-not-none}
 
 module _ (S : System) {L : Entries S} (x : Explores S unbounded L) (whole : SomeCut S L → ⊥) where
   not-cut : {n : S .Node} {k : Key} {h : S .Hints} → L n k h → S .cut h ≡ false
@@ -31,22 +33,10 @@ module _ (S : System) {L : Entries S} (x : Explores S unbounded L) (whole : Some
   run-reached : {m t : S .Node} {i j : Key} {p : List ℕ} → Run S m i p t j → {k : Key} {h : S .Hints} → L m k h → (c : Key) × (g : S .Hints) × L t c g
   run-reached stop {k} {h} l = (k, h, l)
   run-reached (on {m = m} {n = n} i b s r) {k} {h} l =
-      let a : Arrives S L n (extend k (S .cost i)) (S .carry h n i) = record {
-        source = m;
-        key = k;
-        hints = h;
-        action = i;
-        entry = l;
-        inRange = b;
-        uncut = not-cut l;
-        leads = s;
-        keyIs = refl;
-        hintsAre = refl;
-      } in
-      run-reached r (x .complete tt a .2)
+      run-reached r (x .complete tt (arrives-by S L i l b (not-cut l) s) .2)
 
 twelve-whole : (S : System) {L : Entries S} {a : Answer} → Answers S L a → a ≡ no-plan 12 → NoGoal S L × (SomeCut S L → ⊥)
-twelve-whole S (with-plan y) e = let z : _≡_ {A = ℕ} 0 1 = cc in absurd (omega arith)
+twelve-whole S (with-plan y) e = plan-not-none e
 twelve-whole S (some-cut g c) e = let z : _≡_ {A = ℕ} 11 12 = cc in absurd (omega arith)
 twelve-whole S (none-cut g c) e = (g, c)
 

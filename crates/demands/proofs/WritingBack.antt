@@ -12,7 +12,7 @@ use borrow.Author.Tests.{leb-false, le-leb}
 use Rattle.model.specs.declared.Refusal.{Refusal}
 use Rattle.model.specs.declared.Verdict.{Verdict}
 use Rattle.model.specs.declared.Verdict.the-variants.{Fine, Bad}
-use Rattle.model.specs.declared.Rewritten.the-variants.{Written, Refused as NotWritten}
+use Rattle.model.specs.declared.Rewritten.the-variants.{Written}
 use Rattle.model.specs.Verdict.{refusal}
 use Rattle.model.specs.logic.Formula.{Formula, encode}
 use Rattle.model.specs.logic.Reading.{formula}
@@ -28,6 +28,7 @@ use Rattle.model.proofs.logic.EncodingLaws.{length-encode, parsed-fits, section
 use Rattle.model.proofs.calls.RuleLaws.{FineRule, rule-fine}
 use Rattle.demands.specs.Demand1.{Between}
 use Rattle.demands.specs.Demand2.{Rewrites, WritesBack}
+use Rattle.demands.proofs.Results.{written-not-refused, refused-not-written, same-written, same-not-written}
 use Rattle.demands.proofs.Numbered.{rule-numbered}
 
 -- Wherever there is a world, the normal form holds exactly where the formula does.
@@ -68,18 +69,6 @@ module _ (v a : ℕ) (rule : List ℕ) (fine : FineRule v a rule) where
 -- ---- bytes into a buffer
 
 module _ (v a : ℕ) (rule out : List ℕ) (new : Rewrites v a rule out) (is : (long : List ℕ) → writtenBack v a rule long ≡ into out long) where
-  written-not : {A : Type 0} {n : ℕ} {r : Refusal} → Written n ≡ NotWritten r → A
-  written-not e = let z : _≡_ {A = ℕ} 0 1 = cc in absurd (omega arith)
-
-  not-written : {A : Type 0} {n : ℕ} {r : Refusal} → NotWritten r ≡ Written n → A
-  not-written e = let z : _≡_ {A = ℕ} 0 1 = cc in absurd (omega arith)
-
-  same-size : {n m : ℕ} → Written n ≡ Written m → n ≡ m
-  same-size e = cc
-
-  same-place : {n : ℕ} {m : ℕ} → NotWritten (refusal 13 n) ≡ NotWritten (refusal 13 m) → n ≡ m
-  same-place {n} {m} e = let d : refusal 13 n ≡ refusal 13 m = cc in ap (λ (x : Refusal). x .place) d
-
   -- A buffer that is long enough is written to.
   long-enough : (long : List ℕ) → length out ≤ length long → into out long ≡ writeEnd (Written (length out)) (out ++ drop (length out) long)
   unfolding into writtenOver
@@ -91,17 +80,17 @@ module _ (v a : ℕ) (rule out : List ℕ) (new : Rewrites v a rule out) (is : (
     where
       go : (b : Bool) → leb (length out) (length buffer) ≡ b → WritesBack v a rule buffer (into out buffer)
       go true e = rw (e, into) (record {
-        written = λ {n} h. subst (Rewrites v a rule) (sym (take-at out (drop (length out) buffer) n (same-size h))) new;
-        size = λ {n} h. ap length (take-at out (drop (length out) buffer) n (same-size h)) ∙ same-size h;
-        rest = λ {n} h. drop-at out (drop (length out) buffer) n (same-size h) ∙ ap (λ (k : ℕ). drop k buffer) (same-size h);
-        needed = λ h. written-not h;
+        written = λ {n} h. subst (Rewrites v a rule) (sym (take-at out (drop (length out) buffer) n (same-written h))) new;
+        size = λ {n} h. ap length (take-at out (drop (length out) buffer) n (same-written h)) ∙ same-written h;
+        rest = λ {n} h. drop-at out (drop (length out) buffer) n (same-written h) ∙ ap (λ (k : ℕ). drop k buffer) (same-written h);
+        needed = λ h. written-not-refused h;
       })
       go false e = rw (e, into) (record {
-        written = λ h. not-written h;
-        size = λ h. not-written h;
-        rest = λ h. not-written h;
+        written = λ h. refused-not-written h;
+        size = λ h. refused-not-written h;
+        rest = λ h. refused-not-written h;
         needed = λ {n} h.
-            let d : length out ≡ n = same-place h in (
+            let d : length out ≡ n = ap (λ (x : Refusal). x .place) (same-not-written {r = refusal 13 (length out)} {q = refusal 13 n} h) in (
               omega (arith, leb-false (length out) (length buffer) e),
               λ long l. ap (λ (x : WriteEnd). x .result) (is long ∙ long-enough long (omega arith)) ∙ ap Written d,
             );
@@ -128,8 +117,8 @@ module _ (v a : ℕ) (rule : List ℕ) where
           let f = rule-fine v a rule e in
           subst (WritesBack v a rule buffer) (sym (fine-is f e buffer)) (goes-in v a rule (bytes v a rule f) (rewrites v a rule f) (fine-is f e) buffer)
       go (Bad q) e = rw (e, writtenBack) (record {
-        written = λ h. let z : _≡_ {A = ℕ} 0 1 = cc in absurd (omega arith);
-        size = λ h. let z : _≡_ {A = ℕ} 0 1 = cc in absurd (omega arith);
-        rest = λ h. let z : _≡_ {A = ℕ} 0 1 = cc in absurd (omega arith);
-        needed = λ {n} h. let d : q ≡ refusal 13 n = cc in absurd (not-thirteen q e d);
+        written = λ h. refused-not-written h;
+        size = λ h. refused-not-written h;
+        rest = λ h. refused-not-written h;
+        needed = λ h. absurd (not-thirteen q e (same-not-written h));
       })

@@ -10,6 +10,7 @@ use Rattle.model.specs.exploration.Key.{Key, zeroKey, extend, Le}
 use Rattle.model.specs.exploration.System.{System}
 use Rattle.model.specs.exploration.Equations.{up-to, unbounded, Entries, Starts, Explores, NoGoal, some-cut, none-cut}
 use Rattle.model.specs.exploration.Explore.{Entry, Of, reached, solve}
+use Rattle.model.proofs.exploration.Stepping.{arrives-by}
 use Rattle.model.proofs.exploration.KeyLaws.{le-trans, not-below, extend-lt}
 use Rattle.model.proofs.exploration.Laws.{Laws, Finite}
 use Rattle.model.proofs.exploration.Each.{All}
@@ -121,18 +122,7 @@ module _ (S : System) (laws : Laws S) where
 
       -- A node to which an action leads from a taken record that is not cut is reached.
       next-reached : (s : ℕ) (r : Held S) → Holds t s r → r .taken ≡ true → S .cut (r .hints) ≡ false → (a : ℕ) → a < S .actions → {n : S .Node} → S .step (r .node) a ≡ some n → (k : Key) × (g : S .Hints) × R n k g
-      next-reached s r h y c a b {n} l = truth .complete tt (record {
-        source = r .node;
-        key = r .key;
-        hints = r .hints;
-        action = a;
-        entry = taken-reached s r h y;
-        inRange = b;
-        uncut = c;
-        leads = l;
-        keyIs = refl;
-        hintsAre = refl;
-      })
+      next-reached s r h y c a b {n} l = truth .complete tt (arrives-by S R a (taken-reached s r h y) b c l)
 
       each-reached : (s : ℕ) (r : Held S) → Holds t s r → (k : Key) × (g : S .Hints) × R (r .node) k g
       each-reached zero r h =

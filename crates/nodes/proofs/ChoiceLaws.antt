@@ -1,18 +1,17 @@
 -- The actions of a job eight by eight, and the set of those that are applicable.
 use mathlib.Core.Path.{_≡_, refl, sym, ap, _∙_}
 use mathlib.Core.List.{List, [], _∷_}
-use Prim.Native.Nat.{ℕ, zero, suc, _+_, _*_, _^_, _≤_, _<_}
+use Prim.Native.Nat.{ℕ, zero, suc, _+_, _*_, _/_, _^_, _≤_, _<_}
 use native.Mathlib.Nat.{lt-of-lt-of-le}
 use native.Mathlib.Omega.{arith}
-use lib.ListN.{length, List·getD-eq-default}
+use lib.ListN.{length, getD, List·getD-eq-default}
 use lib.Pow.{pow-mono}
 use Rattle.model.specs.Bits.{bit, bitsOf}
 use Rattle.model.specs.job.Job.{Action, Job, noAction, actionOf}
 use Rattle.model.specs.task.State.{applicable}
-use Rattle.model.specs.search.Node.{Node}
-use Rattle.model.proofs.bits.BitsOf.{bitsOf-lt, bitsOf-head, bitsOf-tail}
+use Rattle.model.proofs.bits.BitsOf.{bitsOf-lt, bitsOf-at}
 use Rattle.task.specs.Applicable.{applicableSet}
-use Rattle.nodes.specs.Meaning.{actionsFrom, Chooses}
+use Rattle.nodes.specs.Meaning.{actionsFrom, choicesIn}
 
 module _ (j : Job) where
   -- ---- the actions
@@ -43,6 +42,12 @@ module _ (j : Job) where
   unfolding actionsFrom
   length-from a zero = refl
   length-from a (suc n) = ap suc (length-from (suc a) n)
+
+  action-from : (a n i : ℕ) → i < n → getD (actionsFrom j a n) i noAction ≡ actionOf j (a + i)
+  unfolding actionsFrom
+  action-from a zero i l = absurd (omega arith)
+  action-from a (suc n) zero l = ap (actionOf j) (omega arith)
+  action-from a (suc n) (suc i) l = action-from (suc a) n i (omega arith) ∙ ap (actionOf j) (omega arith)
 
   -- ---- the set of those that are applicable in a state
 
@@ -75,18 +80,16 @@ module _ (j : Job) where
         let q′ : m ≡ further n = omega arith in
         rw (e, f, p′, q′) (eight-more a n)
 
-    set-bit : (a n i : ℕ) → i < n → bit (setFrom a n) i ≡ applicable (actionOf j (a + i)) s
-    unfolding actionsFrom
-    set-bit a zero i l = absurd (omega arith)
-    set-bit a (suc n) zero l =
-        let e : a ≡ a + 0 = omega arith in
-        bitsOf-head _ (actionOf j a) (actionsFrom j (suc a) n) ∙ ap (λ (i : ℕ). applicable (actionOf j i) s) e
-    set-bit a (suc n) (suc i) l =
-        let e : suc a + i ≡ a + suc i = omega arith in
-        bitsOf-tail _ (actionOf j a) (actionsFrom j (suc a) n) i ∙ set-bit (suc a) n i (omega arith) ∙ ap (λ (i : ℕ). applicable (actionOf j i) s) e
+    -- All of them.
+    pub set-whole : (a n : ℕ) {r : ℕ} → r ≡ setFrom a n → a ≡ 0 → n ≡ 8 * ((length (j .actions) + 7) / 8) → r ≡ choicesIn j s
+    unfolding choicesIn
+    set-whole a n e z h = e ∙ rw (z, h) refl
 
-  -- All of them.
-  pub set-chooses : (m : Node) (a n : ℕ) {r : ℕ} → r ≡ setFrom (m .state) a n → a ≡ 0 → length (j .actions) ≤ n → Chooses j m r
-  set-chooses m a n e z h i l =
-      let q : a + i ≡ i = omega arith in
-      ap (λ (x : ℕ). bit x i) e ∙ set-bit (m .state) a n i (omega arith) ∙ ap (λ (k : ℕ). applicable (actionOf j k) (m .state)) q
+    -- Bit i of the choices tells whether action i is applicable.
+    pub choices-tell : (i : ℕ) → i < length (j .actions) → bit (choicesIn j s) i ≡ applicable (actionOf j i) s
+    unfolding choicesIn
+    choices-tell i l =
+        let n : ℕ = 8 * ((length (j .actions) + 7) / 8) in
+        let e : 0 + i ≡ i = omega arith in
+        bitsOf-at (λ a. applicable a s) noAction (actionsFrom j 0 n) i (rw (length-from 0 n) (omega arith))
+        ∙ ap (λ (a : Action). applicable a s) (action-from 0 n i (omega arith) ∙ ap (actionOf j) e)

@@ -15,7 +15,7 @@ ghost use Rattle.model.specs.search.Node.{someDead};
 ghost use Rattle.model.specs.search.JobSystem.{startNode, nextNode, isGoal, startHints, carryHints};
 ghost use Rattle.task.specs.Meaning.{actionIs};
 ghost use Rattle.progression.specs.Workspace.{Workspace};
-ghost use Rattle.nodes.specs.Meaning.{nodeIs, hintsIs, actionsFrom, Acts, Costs, Chooses, Applies, Made, Leads, Carries};
+ghost use Rattle.nodes.specs.Meaning.{nodeIs, hintsIs, actionsFrom, choicesIn, Acts, Costs, Applies, Made, Leads, Carries};
 
 // What an action leads to. Where it leads nowhere, alive is false and the node, clean as any, means nothing.
 pub struct Reached {
@@ -69,10 +69,11 @@ fn eight_from(job: &[u8], first: u8) -> [Action; 8]
     ]
 }
 
-// The actions that are applicable at a node: bit i is action i. The last eight are looked up first, so that each next eight are the lowest bits.
+// The actions that are applicable at a node: bit i is action i, and bits of no action of the job mean nothing. The last eight are looked up first, so
+// that each next eight are the lowest bits.
 pub fn choices(job: &[u8], node: [u64; 9]) -> u64
     requires { ⌜ jobVerdict (now job) ≡ Fine ⌝ }
-    ensures { λ r. ⌜ Chooses (jobOf (now (job .entry))) (nodeIs (constraintCount (now (job .entry))) node) r ⌝ }
+    ensures { λ r. ⌜ r ≡ choicesIn (jobOf (now (job .entry))) (nodeIs (constraintCount (now (job .entry))) node .state) ⌝ }
 {
     let facts = node[0];
     let mut set = 0;

@@ -9,12 +9,6 @@ ghost use Rattle.model.specs.calls.Validate.{validated};
 ghost use Rattle.model.specs.calls.WriteBack.{writtenBack};
 ghost use Rattle.model.specs.calls.Numbers.{validateNumbers, SearchAnswers, WriteAnswers};
 
-fn wide(x: u8) -> u64
-    ensures { λ r. ⌜ r ≡ x ⌝ }
-{
-    x as u64
-}
-
 // Looks for the job's plan: 0 with its cost and its number of steps, or the number of a refusal with its place.
 #[no_mangle]
 pub extern "C" fn dagzhimo_search(
@@ -38,12 +32,12 @@ pub extern "C" fn dagzhimo_validate(job: &[u8], steps: &[u8], out: &mut [u64; 2]
 {
     match validate::validate(job, steps) {
         Validated::Passed(cost, bits) => {
-            *out = [cost, wide(bits)];
+            *out = [cost, words::wide(bits)];
             0
         }
         Validated::Refused(refusal) => {
             *out = [refusal.place as u64, 0];
-            wide(refusal.number)
+            words::wide(refusal.number)
         }
     }
 }
@@ -76,7 +70,7 @@ pub extern "C" fn dagzhimo_write_back(
         }
         Rewritten::Refused(refusal) => {
             *out = [refusal.place as u64, 0];
-            wide(refusal.number)
+            words::wide(refusal.number)
         }
     }
 }

@@ -3,10 +3,6 @@ use libc::STDOUT_FILENO;
 use model::Rewritten;
 use model::Validated;
 
-fn wide(x: u8) -> u64 {
-    x as u64
-}
-
 fn text(s: &[u8]) {
     io::write_all(STDOUT_FILENO, s);
 }
@@ -22,7 +18,7 @@ fn number(n: u64, end: u8) {
 fn steps(plan: &[u8]) {
     let mut i = 0;
     while i < plan.len() {
-        number(wide(plan[i]), b'\n');
+        number(words::wide(plan[i]), b'\n');
         i += 1;
     }
 }
@@ -52,16 +48,16 @@ pub fn validated(end: Validated) {
         Validated::Passed(cost, bits) => {
             text(b"passed ");
             number(cost, b' ');
-            number(wide(bits), b'\n');
+            number(words::wide(bits), b'\n');
         }
-        Validated::Refused(r) => refused(wide(r.number), r.place as u64),
+        Validated::Refused(r) => refused(words::wide(r.number), r.place as u64),
     }
 }
 
 // A space and a byte in hexadecimal.
 fn byte(x: u8) {
     text(b" ");
-    io::print_hex(STDOUT_FILENO, wide(x), 2);
+    io::print_hex(STDOUT_FILENO, words::wide(x), 2);
 }
 
 // The first n bytes of a buffer.
@@ -82,6 +78,6 @@ pub fn rewritten(end: Rewritten, buffer: &[u8]) {
             bytes(buffer, n);
             text(b"\n");
         }
-        Rewritten::Refused(r) => refused(wide(r.number), r.place as u64),
+        Rewritten::Refused(r) => refused(words::wide(r.number), r.place as u64),
     }
 }

@@ -25,12 +25,6 @@ enum Turn {
     End(Ended),
 }
 
-fn wide(x: u8) -> u64
-    ensures { λ r. ⌜ r ≡ x ⌝ }
-{
-    x as u64
-}
-
 // Searches for the job's plan, and writes it to the front of the plan buffer. Bytes that are no job are refused with nothing touched; on every
 // other way out each byte of the table is zero.
 pub fn search(job: &[u8], table: &mut [u8], plan: &mut [u8]) -> Searched
@@ -52,7 +46,7 @@ pub fn numbers(end: Searched) -> [u64; 3]
 {
     match end {
         Searched::Planned(cost, steps) => [0, cost, steps as u64],
-        Searched::Refused(refusal) => [wide(refusal.number), refusal.place as u64, 0],
+        Searched::Refused(refusal) => [words::wide(refusal.number), refusal.place as u64, 0],
     }
 }
 

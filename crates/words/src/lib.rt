@@ -1,4 +1,4 @@
-// Little-endian numbers of 16 and 64 bits in byte slices.
+// Bytes as numbers: little-endian numbers of 16 and 64 bits in byte slices.
 ghost use mathlib.Core.Path.{_≡_};
 ghost use Prim.Native.Nat.{_+_, _*_, _≤_, _<_, _%_};
 ghost use lib.ListN.{length};
@@ -6,7 +6,8 @@ ghost use lib.Seq.{sets};
 ghost use Rattle.model.specs.Bits.{numberAt};
 ghost use Rattle.words.specs.Digits.{digits, two, eight};
 
-fn wide(x: u8) -> u64
+// A byte as a number.
+pub fn wide(x: u8) -> u64
     ensures { λ r. ⌜ (r ≡ x) × (r < 256) ⌝ }
 {
     x as u64

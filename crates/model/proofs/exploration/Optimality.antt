@@ -4,9 +4,10 @@ use Prim.Native.Nat.{ℕ, _≤_}
 use mathlib.Core.Bool.{Bool, true, false, true≢false}
 use mathlib.Core.List.{List, [], _∷_, _++_, append-nil, append-assoc}
 use mathlib.Core.Logic.{_⊎_, inl, inr}
-use Rattle.model.specs.exploration.Key.{Key, zeroKey, extend, Le, Lt, First}
+use Rattle.model.specs.exploration.Key.{Key, zeroKey, Le, Lt, First}
 use Rattle.model.specs.exploration.System.{System}
 use Rattle.model.specs.exploration.Equations.{unbounded, Entries, Starts, Arrives, Explores, Uncut, Path, begin, onward, Plan, NoGoal}
+use Rattle.model.proofs.exploration.Stepping.{arrives-by}
 use Rattle.model.proofs.exploration.KeyLaws.{lt-le, le-lt-trans, not-below, le-antisym, lt-or-le, key-ind}
 use Rattle.model.proofs.exploration.Laws.{Laws, HintLaws}
 use Rattle.model.proofs.exploration.Uniqueness.{arrives-lt, start-only, away}
@@ -82,18 +83,7 @@ module _ (S : System) where
       follows stop g p q = path-cast S (sym (append-nil p)) refl refl q
       follows (on {m = m} {n = n} {t = t} {k = k} {as′ = as′} i d s r) g p q =
           let u = path-end S q in
-          let a : Arrives S L n (extend k (S .cost i)) (S .carry (u .0) n i) = record {
-            source = m;
-            key = k;
-            hints = u .0;
-            action = i;
-            entry = u .1;
-            inRange = d;
-            uncut = u .2;
-            leads = s;
-            keyIs = refl;
-            hintsAre = refl;
-          } in
+          let a = arrives-by S L i (u .1) d (u .2) s in
           let l = on-least a r g in
           path-cast S (append-assoc p (i ∷ []) as′) refl refl (follows r g (p ++ (i ∷ [])) (onward i q d s (l .0, l .1, uncut-on (l .1) r g)))
 

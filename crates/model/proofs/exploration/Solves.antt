@@ -11,6 +11,7 @@ use Rattle.model.specs.exploration.System.{System}
 use Rattle.model.specs.exploration.Equations.{unbounded, Within, Starts, Arrives, Explores}
 use Rattle.model.specs.exploration.Explore.{Entry, Of, isCut, arrivals, known, startEntry, reached}
 use Rattle.model.proofs.exploration.Laws.{Laws, Finite}
+use Rattle.model.proofs.exploration.Stepping.{arrives-by}
 use Rattle.model.proofs.exploration.Each.{All, all-map, all-at, all-mem}
 use Rattle.model.proofs.exploration.Arrivals.{arrivals-all, arrivals-at, new-apart, known-entry}
 use Rattle.model.proofs.exploration.Gather.{At}
@@ -35,18 +36,7 @@ module _ (S : System) where
     where
       one : (e : Entry S) (n : S .Node) (i : ℕ) → List·Memᴰ e M → isCut S e ≡ false → i < S .actions → S .step (e .node) i ≡ some n
           → Arrives S (Of S M) n (extend (e .key) (S .cost i)) (S .carry (e .hints) n i)
-      one e n i m c b s = record {
-        source = e .node;
-        key = e .key;
-        hints = e .hints;
-        action = i;
-        entry = (e, m, refl, refl, refl);
-        inRange = b;
-        uncut = c;
-        leads = s;
-        keyIs = refl;
-        hintsAre = refl;
-      }
+      one e n i m c b s = arrives-by S (Of S M) i (e, m, refl, refl, refl) b c s
 
   module _ (laws : Laws S) where
     not-new : (L : List (Entry S)) (e x : Entry S) → List·Memᴰ e L → e .node ≡ x .node → known S (x .node) L ≡ false → ⊥

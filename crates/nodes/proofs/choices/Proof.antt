@@ -4,11 +4,11 @@ use Prim.Native.Nat.{_-_, _*_, _≤_, _<_, _^_}
 use native.Mathlib.Omega.{arith}
 use lib.ListN.{getD}
 use borrow.Author.Needs.{needs}
-use Rattle.model.specs.job.Layout.{constraintCount, jobOf}
+use Rattle.model.specs.job.Layout.{jobOf}
 use Rattle.job.proofs.Accepted.{accepted-laid}
 use Rattle.nodes.specs.Meaning.{nodeIs}
 use Rattle.nodes.proofs.Fields.{length-actions}
-use Rattle.nodes.proofs.ChoiceLaws.{setFrom, set-of, set-none, set-lt, set-eight, set-chooses}
+use Rattle.nodes.proofs.ChoiceLaws.{setFrom, set-of, set-none, set-lt, set-eight, set-whole}
 use Rattle.nodes.proofs.choices.Statement.{statement}
 use Rattle.nodes.proofs.choices.Tie as tie
 
@@ -92,8 +92,7 @@ returns c =
     let l = ended c in
     let n = counted l in
     let b = start n .args .job .now in
-    set-chooses (jobOf b) (nodeIs (constraintCount b) (start n .args .t2)) _ _ (l .loop .inv .0) (omega arith)
-    (omega (arith, length-actions b, n .action-count .ensures))
+    set-whole (jobOf b) _ _ _ (l .loop .inv .0) (omega arith) (omega (arith, length-actions b, n .action-count .ensures))
 
 pub choices-spec : {M : Type 1} → statement M
 choices-spec =

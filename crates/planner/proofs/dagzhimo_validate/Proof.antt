@@ -15,10 +15,10 @@ refuses c = c .before .before .before
 -- ---- needs
 
 returns : tie.Need-returns
-returns c = passed _ _ _ _ _ (passes c .before .before .validate .ensures) (passes c .cost .given .1) (c .before .wide .ensures)
+returns c = passed _ _ _ _ _ (passes c .before .before .validate .ensures) (passes c .cost .given .1) (c .before .wide .ensures .0)
 
 returns-2 : tie.Need-returns-2
-returns-2 c = refused _ _ _ _ (refuses c .before .before .validate .ensures) (refuses c .refusal .given .1) (c .wide2 .ensures)
+returns-2 c = refused _ _ _ _ (refuses c .before .before .validate .ensures) (refuses c .refusal .given .1) (c .wide2 .ensures .0)
 
 pub dagzhimo-validate-spec : {M : Type 1} → statement M
 dagzhimo-validate-spec =

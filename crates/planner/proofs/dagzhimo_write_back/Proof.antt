@@ -31,7 +31,7 @@ returns : tie.Need-returns
 returns c = let n = c .before .before in written (is (n .before .before)) _ (n .n .given .1)
 
 returns-2 : tie.Need-returns-2
-returns-2 c = let r = c .before .before .before in not-written (is (r .before .before)) _ _ (r .refusal .given .1) (c .wide .ensures)
+returns-2 c = let r = c .before .before .before in not-written (is (r .before .before)) _ _ (r .refusal .given .1) (c .wide .ensures .0)
 
 pub dagzhimo-write-back-spec : {M : Type 1} → statement M
 dagzhimo-write-back-spec =
