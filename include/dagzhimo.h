@@ -25,7 +25,7 @@
 #define DAGZHIMO_MOST_SLOTS 65536
 #define DAGZHIMO_MOST_TABLE (DAGZHIMO_SLOT * DAGZHIMO_MOST_SLOTS)
 
-/* The most bytes that a rule takes when it is written back. */
+/* A buffer of so many bytes holds every rule that is written back. */
 #define DAGZHIMO_MOST_RULE 384
 
 /* What the functions answer; after each refusal, its place. Refusals 1 to 9 leave everything lent but out alone. */
