@@ -1,35 +1,26 @@
 """Writes what the programs `cases` and `dagzhimo` are run on and what they must print: the cases of document 01, each with what it says of it, and
 random rules with what they are to be written back as, by the document's words.
 
-    tests/make_cases.py"""
+    tests/make_cases.py [--check]
+
+With --check nothing is written: it fails if a stored file is not what would be written, and names the file. In both ways it fails if the oracle,
+which judges the random jobs, does not say of document 01's cases what the document says."""
 
 import pathlib
 import random
 import struct
 import sys
 
-ROOT = pathlib.Path(__file__).resolve().parent.parent / "crates"
-sys.path.insert(0, str(ROOT.parent / "tests" / "oracle"))
+ROOT = pathlib.Path(__file__).resolve().parent.parent
+sys.path.insert(0, str(ROOT / "tests" / "oracle"))
 
-from compare import formula  # noqa: E402
-from oracle import Refused, read_section, true_at  # noqa: E402
-
-
-def facts(value):
-    return value.to_bytes(8, "little")
-
-
-def step(needed, added, deleted, cost):
-    return facts(needed) + facts(added) + facts(deleted) + struct.pack("<H", cost)
-
-
-def job(count, start, goal, steps, rules=(), hints=()):
-    sections = [facts(start) + facts(goal) + b"".join(steps)] + [bytes(f) for f in (*rules, *hints)]
-    offset, pairs = 4 + 4 * len(sections), b""
-    for section in sections:
-        pairs += struct.pack("<2H", offset, len(section))
-        offset += len(section)
-    return bytes([count, len(steps), len(rules), len(hints)]) + pairs + b"".join(sections)
+import expect  # noqa: E402
+from formulas import Refused  # noqa: E402
+from generate import formula  # noqa: E402
+from jobs import Job  # noqa: E402
+from pack import job, step  # noqa: E402
+from pairs import Answer  # noqa: E402
+from written import check_written, positive  # noqa: E402
 
 
 def p(goal=4, rules=(), hints=()):
@@ -49,45 +40,18 @@ def write_back(rule, count=3, steps=3):
     return b"w" + bytes([len(rule), 0, count, steps]) + bytes(rule)
 
 
-# ---- rules written back, by document 01's words
-
-DUAL = {"and": 0x12, "or": 0x11, "until": 0x24, "release": 0x23, "eventually": 0x22, "always": 0x21}
-CODE = {"false": 0x00, "true": 0x01, "last": 0x02, "fact": 0x03, "step": 0x04, "and": 0x11, "or": 0x12, "next": 0x20, "eventually": 0x21,
-        "always": 0x22, "until": 0x23, "release": 0x24}
-
-
-def positive(rule, negated=False):
-    """The bytes of a formula, or of its negation, with not only before fact, step or last."""
-    kind, rest = rule[0], rule[1:-1]
-    if kind == "not":
-        return positive(rest[0], not negated)
-    if kind in ("false", "true"):
-        return [CODE[kind] ^ negated]
-    if kind in ("last", "fact", "step"):
-        return [0x10] * negated + [CODE[kind], *rest]
-    if kind == "next":
-        return [0x12, 0x02] * negated + [0x20, *positive(rest[0], negated)]
-    return [DUAL[kind] if negated else CODE[kind]] + [b for x in rest for b in positive(x, negated)]
-
-
-def same_meaning(rng, rule, other):
-    for _ in range(20):
-        worlds = [(frozenset(i for i in range(3) if rng.random() < 0.5), rng.choice([None, 0, 1, 2])) for _ in range(rng.randint(1, 5))]
-        assert true_at(worlds, 0, rule) == true_at(worlds, 0, other)
-
-
 def random_rules(count):
-    """Random rules and what they are written back as; that it means the same is tried on random worlds."""
+    """Random rules and what they are written back as."""
     rng = random.Random(20261115)
     for _ in range(count):
         data = bytes(formula(rng, 3, 3, rng.randint(1, 4)))[:60]
         try:
-            rule = read_section(data, 0, len(data), 3, 3)
+            rule = expect.read_rule(3, 3, data)
         except Refused as r:
             yield write_back(data), f"refused {r.number} {r.place}"
             continue
         out = bytes(positive(rule))
-        same_meaning(rng, rule, read_section(out, 0, len(out), 3, 3))
+        check_written(rng, rule, 3, 3)
         yield write_back(data), f"written {len(out)}: " + out.hex(" ")
 
 
@@ -119,12 +83,54 @@ CASES = [
 ]
 
 
-def main():
+def printed(case):
+    """What the oracle says of a case, in the words of the program `cases`."""
+    kind, size, body = case[:1], case[1], case[5:]
+    if kind == b"w":
+        numbers, buffer = expect.write_back(case[3], case[4], body, bytes(512))
+        return refusal(numbers) or f"written {numbers[1]}: " + buffer[:numbers[1]].hex(" ")
+    data, refused, judged = body if kind == b"s" else body[size:], None, None
+    try:
+        judged = Job(data)
+    except Refused as r:
+        refused = r
+    if kind == b"v":
+        numbers = expect.read_through(refused, judged, body[:size])
+        return refusal(numbers) or f"passed {numbers[1]} {numbers[2]}"
+    numbers, _, plan = expect.search(refused, judged and Answer(judged), bytes(65536), bytes(size))[0]
+    return refusal(numbers) or "\n".join([f"plan {numbers[2]} {numbers[1]}", *map(str, plan[:numbers[2]])])
+
+
+def refusal(numbers):
+    return f"refused {numbers[0]} {numbers[1]}" if numbers[0] else None
+
+
+def files():
+    """Each stored file and what it must hold."""
     cases = CASES + list(random_rules(200))
-    (ROOT / "cases" / "stdin").write_bytes(b"".join(data for data, _ in cases))
-    (ROOT / "cases" / "stdout").write_text("".join(line + "\n" for _, line in cases))
-    (ROOT / "dagzhimo" / "stdin").write_bytes(p())
-    (ROOT / "dagzhimo" / "stdout").write_text("plan 3 16\n0\n1\n2\n")
+    return {
+        "crates/cases/stdin": b"".join(data for data, _ in cases),
+        "crates/cases/stdout": "".join(line + "\n" for _, line in cases).encode(),
+        "crates/dagzhimo/stdin": p(),
+        "crates/dagzhimo/stdout": b"plan 3 16\n0\n1\n2\n",
+    }
+
+
+def main():
+    check = sys.argv[1:] == ["--check"]
+    if sys.argv[1:] and not check:
+        sys.exit(__doc__)
+    for case, line in CASES:
+        if printed(case) != line:
+            sys.exit(f"the oracle says {printed(case)!r} and document 01 {line!r} of the case {case.hex()}")
+    for name, wanted in files().items():
+        path = ROOT / name
+        if not check:
+            path.write_bytes(wanted)
+        elif not path.exists() or path.read_bytes() != wanted:
+            sys.exit(f"{name} is not what tests/make_cases.py writes")
+    if check:
+        print("stored cases: as tests/make_cases.py writes them")
 
 
 if __name__ == "__main__":

@@ -1,53 +1,122 @@
-/* Calls the search from C on job P, and looks at numbers, plan buffer and table. */
-#include <stdio.h>
-#include <string.h>
+/* Calls the search from C on document 01's cases, and looks at numbers, plan buffer and table. */
+#include "expect.h"
 
-#include "dagzhimo.h"
+enum { SLOT = DAGZHIMO_SLOT };
 
-static int failures = 0;
+static uint8_t job[P_ROOM], table[65536], plan[8], large[DAGZHIMO_MOST_TABLE + 2 * SLOT + 1];
 
-static void check(const char *what, int ok) {
-    if (!ok) printf("%s: wrong\n", what), failures++;
+/* A search with all of the plan buffer; after it the table is cleared, and the buffer has these steps and else what it had. */
+static void expect_plan(const char *what, size_t length, uint64_t number, uint64_t cost, const uint8_t *steps, size_t count) {
+    uint8_t wanted[sizeof plan];
+    memset(table, 7, sizeof table), memset(plan, 9, sizeof plan), memset(wanted, 9, sizeof wanted);
+    if (count) memcpy(wanted, steps, count);
+    expect(what, search(job, length, table, sizeof table, plan, sizeof plan), number, cost, count);
+    expect_bytes(what, plan, wanted, sizeof plan);
+    expect_all(what, table, sizeof table, 0);
 }
 
-static int all(const uint8_t *bytes, size_t length, uint8_t value) {
-    for (size_t i = 0; i < length; i++)
-        if (bytes[i] != value) return 0;
-    return 1;
+static void expect_refused(const char *what, size_t length, uint64_t number) { expect_plan(what, length, number, 0, NULL, 0); }
+
+/* P in a table without a place: its pairs outnumber the places, so 10 is right, which leaves the plan buffer alone, and so is the answer. */
+static void expect_10_or_plan(const char *what, size_t length, uint8_t *lent, size_t lent_len) {
+    memset(plan, 9, sizeof plan);
+    struct numbers got = search(job, length, lent, lent_len, plan, sizeof plan);
+    if (got.number == 10) {
+        expect(what, got, 10, 0, 0);
+        expect_all(what, plan, sizeof plan, 9);
+    } else {
+        expect(what, got, 0, 16, 3);
+        expect_bytes(what, plan, BYTES(0, 1, 2, 9, 9, 9, 9, 9));
+    }
+}
+
+static void cases(void) {
+    expect_plan("P", job_p(job, GOAL_SCANNED, PLAIN, NULL, 0), 0, 16, BYTES(0, 1, 2));
+    expect_plan("lamp before sand", job_p(job, GOAL_SCANNED, AS_RULE, BYTES(0x23, 0x10, 0x04, 0x00, 0x04, 0x01)), 0, 16, BYTES(1, 0, 2));
+    expect_refused("rule last", job_p(job, GOAL_SCANNED, AS_RULE, BYTES(0x02)), 12);
+    expect_plan("rule eventually last", job_p(job, GOAL_SCANNED, AS_RULE, BYTES(0x21, 0x02)), 0, 16, BYTES(0, 1, 2));
+    expect_refused("rule false", job_p(job, GOAL_SCANNED, AS_RULE, BYTES(0x00)), 12);
+    expect_plan("no goal", job_p(job, GOAL_NONE, PLAIN, NULL, 0), 0, 0, NULL, 0);
+    expect_plan("no goal, next last", job_p(job, GOAL_NONE, AS_RULE, BYTES(0x20, 0x02)), 0, 0, NULL, 0);
+    expect_plan("no goal, next next true", job_p(job, GOAL_NONE, AS_RULE, BYTES(0x20, 0x20, 0x01)), 0, 2, BYTES(1));
+    expect_refused("hint never lamp", job_p(job, GOAL_SCANNED, AS_HINT, BYTES(0x22, 0x10, 0x04, 0x01)), 11);
+    expect_plan("hint eventually sand", job_p(job, GOAL_SCANNED, AS_HINT, BYTES(0x21, 0x04, 0x00)), 0, 16, BYTES(0, 1, 2));
+    /* six moments after the first must come, so there are five steps, and the cheapest more ones are lamps */
+    expect_plan("six times next", job_p(job, GOAL_SCANNED, AS_RULE, BYTES(0x20, 0x20, 0x20, 0x20, 0x20, 0x20, 0x03, 0x00)), 0, 20,
+                BYTES(0, 1, 1, 1, 2));
+
+    /* two facts, two steps of cost 0 that add and delete fact 0, goal fact 1 */
+    memset(job, 0, sizeof job);
+    memcpy(job, BYTES(2, 2, 0, 0, 8, 0, 68, 0));
+    job[8 + 8] = 2;
+    job[8 + 16 + 8] = 1;
+    job[8 + 42] = 1, job[8 + 42 + 16] = 1;
+    expect_refused("steps that undo each other", 76, 12);
+}
+
+static void buffers(void) {
+    size_t n = job_p(job, GOAL_SCANNED, PLAIN, NULL, 0);
+    memset(plan, 9, sizeof plan);
+    expect("buffer of 2", search(job, n, table, sizeof table, plan, 2), 13, 3, 0);
+    expect_all("buffer of 2", plan, sizeof plan, 9);
+    expect("buffer of 3", search(job, n, table, sizeof table, plan, 3), 0, 16, 3);
+    expect_bytes("buffer of 3", plan, BYTES(0, 1, 2, 9, 9, 9, 9, 9));
+    expect("no buffer at all", search(job, n, table, sizeof table, NULL, 0), 13, 3, 0);
+    n = job_p(job, GOAL_NONE, PLAIN, NULL, 0);
+    expect("no buffer at all, empty plan", search(job, n, table, sizeof table, NULL, 0), 0, 0, 0);
+}
+
+static void tables(void) {
+    size_t n = job_p(job, GOAL_SCANNED, PLAIN, NULL, 0);
+    memset(table, 7, sizeof table);
+    expect_10_or_plan("no slot", n, table, SLOT - 1);
+    expect_all("no slot, table", table, SLOT - 1, 0);
+    expect_all("no slot, bytes after the table", table + SLOT - 1, sizeof table - (SLOT - 1), 7);
+    expect_10_or_plan("no table at all", n, NULL, 0);
+    /* no pair is reached: the rule is dead at the start */
+    n = job_p(job, GOAL_SCANNED, AS_RULE, BYTES(0x00));
+    expect("no table at all, no pair", search(job, n, NULL, 0, plan, sizeof plan), 12, 0, 0);
+
+    /* five pairs: nothing, sanded, lamp, both, scanned */
+    n = job_p(job, GOAL_SCANNED, PLAIN, NULL, 0);
+    memset(table, 7, sizeof table);
+    expect("five slots", search(job, n, table + 1, 5 * SLOT, plan, sizeof plan), 0, 16, 3);
+    expect_all("five slots, byte before the table", table, 1, 7);
+    expect_all("five slots, table", table + 1, 5 * SLOT, 0);
+    expect_all("five slots, bytes after the table", table + 1 + 5 * SLOT, sizeof table - 1 - 5 * SLOT, 7);
+
+    memset(large, 7, sizeof large);
+    expect("more than 65,536 slots", search(job, n, large, sizeof large, plan, sizeof plan), 0, 16, 3);
+    expect_all("more than 65,536 slots, table", large, sizeof large, 0);
+}
+
+/* Refusals 1 to 5 leave table and buffer alone. */
+static void expect_untouched(const char *what, size_t length, uint64_t number, uint64_t place) {
+    memset(table, 7, sizeof table), memset(plan, 9, sizeof plan);
+    expect(what, search(job, length, table, sizeof table, plan, sizeof plan), number, place, 0);
+    expect_all(what, table, sizeof table, 7);
+    expect_all(what, plan, sizeof plan, 9);
+}
+
+static void refusals(void) {
+    size_t n = job_p(job, GOAL_SCANNED, PLAIN, NULL, 0);
+    expect_untouched("empty job", 0, 1, 0);
+    expect_untouched("cut off", n - 1, 2, 0);
+    expect_untouched("a byte more", n + 1, 2, 0);
+    job[8] = 8;
+    expect_untouched("fact 3 of 3", n, 3, 8);
+    n = job_p(job, GOAL_SCANNED, AS_RULE, BYTES(0x21, 0x04, 0x03));
+    expect_untouched("step 3 of 3", n, 4, 108);
+    n = job_p(job, GOAL_SCANNED, AS_RULE, BYTES(0x20, 0x20, 0x20, 0x20, 0x20, 0x20, 0x20, 0x03, 0x00));
+    expect_untouched("seven times next", n, 5, 113);
+    expect("no job at all", search(NULL, 0, table, sizeof table, plan, sizeof plan), 1, 0, 0);
+    expect("nothing at all", search(NULL, 0, NULL, 0, NULL, 0), 1, 0, 0);
 }
 
 int main(void) {
-    static uint8_t table[65536];
-    uint8_t plan[8];
-    uint64_t out[2];
-    uint8_t job[102] = {3, 3, 0, 0, 8, 0, 94, 0};
-    uint8_t *task = job + 8;
-    task[8] = 4;
-    task[16 + 8] = 1, task[16 + 24] = 5;
-    task[42 + 8] = 2, task[42 + 24] = 2;
-    task[68] = 3, task[68 + 8] = 4, task[68 + 24] = 9;
-
-    memset(table, 7, sizeof table), memset(plan, 9, sizeof plan);
-    check("plan", dagzhimo_search(job, sizeof job, table, sizeof table, plan, sizeof plan, out) == 0 && out[0] == 16 && out[1] == 3);
-    check("plan's bytes", plan[0] == 0 && plan[1] == 1 && plan[2] == 2 && all(plan + 3, 5, 9));
-    check("table cleared", all(table, sizeof table, 0));
-
-    memset(plan, 9, sizeof plan);
-    check("buffer of 2", dagzhimo_search(job, sizeof job, table, sizeof table, plan, 2, out) == 13 && out[0] == 3 && all(plan, 8, 9));
-    check("buffer of 3", dagzhimo_search(job, sizeof job, table, sizeof table, plan, 3, out) == 0 && plan[2] == 2 && plan[3] == 9);
-
-    memset(table, 7, sizeof table), memset(plan, 9, sizeof plan);
-    check("no slot", dagzhimo_search(job, sizeof job, table, 159, plan, sizeof plan, out) == 10 && out[0] == 0);
-    check("no slot, bytes", all(table, 159, 0) && table[159] == 7 && all(plan, 8, 9));
-    check("five slots", dagzhimo_search(job, sizeof job, table, 5 * 160, plan, sizeof plan, out) == 0 && out[0] == 16);
-
-    memset(table, 7, sizeof table), memset(plan, 9, sizeof plan);
-    check("cut off", dagzhimo_search(job, sizeof job - 1, table, sizeof table, plan, sizeof plan, out) == 2 && out[0] == 0);
-    check("cut off, bytes", all(table, sizeof table, 7) && all(plan, 8, 9));
-
-    task[8] = 0;
-    check("empty plan", dagzhimo_search(job, sizeof job, table, sizeof table, plan, 0, out) == 0 && out[0] == 0 && out[1] == 0);
-
-    printf("search from C: %s\n", failures ? "FAILED" : "ok");
-    return failures ? 1 : 0;
+    cases();
+    buffers();
+    tables();
+    refusals();
+    return finish("search");
 }

@@ -1,18 +1,15 @@
 /* How much stack a call needs, measured: the calls run on a stack of their own, painted before, and the bytes that they overwrite are counted.
  * The job has 16 formulas of 128 bytes that are nested as deep as can be, 127 operators and a constant in each other, since the reader and the
- * evaluator call themselves at each operand. */
-#include <stdio.h>
-#include <stdlib.h>
-#include <string.h>
+ * evaluator call themselves at each operand; the rule to write back has 127 nots. */
 #include <ucontext.h>
 
-#include "dagzhimo.h"
+#include "expect.h"
 
 enum { ROOM = 1 << 20, PAINT = 0xa5 };
 
-static uint8_t stack[ROOM] __attribute__((aligned(16))), job[8192], table[409 * 160], plan[1024], steps[4096];
+static uint8_t stack[ROOM] __attribute__((aligned(16))), job[8192], table[409 * DAGZHIMO_SLOT], plan[1024], steps[4096], rule[128], buffer[128];
 static size_t job_len;
-static uint64_t out[2], answer;
+static struct numbers answer;
 static ucontext_t caller, callee;
 
 static void put(uint8_t *at, uint64_t value, int bytes) {
@@ -41,9 +38,11 @@ static void make_job(void) {
     job_len = at;
 }
 
-static void search(void) { answer = dagzhimo_search(job, job_len, table, sizeof table, plan, sizeof plan, out); }
+static void call_search(void) { answer = search(job, job_len, table, sizeof table, plan, sizeof plan); }
 
-static void validate(void) { answer = dagzhimo_validate(job, job_len, steps, sizeof steps, out); }
+static void call_read_through(void) { answer = read_through(job, job_len, steps, sizeof steps); }
+
+static void call_write_back(void) { answer = write_back(3, 3, rule, sizeof rule, buffer, sizeof buffer); }
 
 /* The bytes of stack that a function needs. */
 static size_t need(void (*function)(void)) {
@@ -59,19 +58,28 @@ static size_t need(void (*function)(void)) {
     return sizeof stack - untouched;
 }
 
-static void expect(const char *what, uint64_t wanted, size_t bytes) {
-    if (answer != wanted) printf("stack: %s gives %llu\n", what, (unsigned long long)answer), exit(1);
-    if (bytes > DAGZHIMO_STACK) printf("stack: %s needs %zu bytes, more than the header says\n", what, bytes), exit(1);
+/* The call answers this, and needs no more stack than the header says. */
+static void expect_need(const char *what, void (*call)(void), uint64_t number, uint64_t first, uint64_t second) {
+    size_t bytes = need(call);
+    expect(what, answer, number, first, second);
     printf("stack: %s needs %zu bytes, the header allows %d\n", what, bytes, DAGZHIMO_STACK);
+    if (bytes > DAGZHIMO_STACK) failures++;
 }
 
 int main(void) {
     make_job();
-    size_t bytes = need(search);
-    expect("a search", 0, bytes);
+    /* step 8 adds the goal, and costs 8 */
+    expect_need("a search", call_search, 0, 8, 1);
+
+    /* the first 4,095 steps are 0 to 7 in turn, 511 times 0 to 7 and then 0 to 6, and cost 511 times 28 and 21; all hints are met */
     for (size_t i = 0; i < sizeof steps; i++) steps[i] = (uint8_t)(i % 8);
     steps[sizeof steps - 1] = 8;
-    bytes = need(validate);
-    expect("a read-through", 0, bytes);
-    return 0;
+    expect_need("a read-through", call_read_through, 0, 511 * 28 + 21 + 8, 255);
+
+    memset(rule, 0x10, sizeof rule);
+    rule[sizeof rule - 1] = 0x01;
+    expect_need("writing back", call_write_back, 0, 1, 0);
+    expect_bytes("writing back", buffer, BYTES(0x00));
+
+    return finish("stack");
 }

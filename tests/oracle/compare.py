@@ -1,208 +1,205 @@
-"""Compares the planner's static library with the oracle on random small jobs: answers, places, plan buffers and table bytes.
+"""Compares the planner's static library with document 01 on random jobs: numbers, places, and every byte of the lent slices.
 
     compare.py DRIVER [SEED [JOBS]]
 
-The seed is fixed unless one is given. It fails at the first difference and prints the job, and fails too if some refusal number was never met."""
+DRIVER is driver.c, compiled with the library. The seed is fixed unless one is given. It fails at the first difference and prints the job; and it
+fails if something that the jobs are to try happened too seldom."""
 
 import random
-import struct
-import subprocess
 import sys
 
-from oracle import Job, Refused, carried, read_section, slots
+import expect
+import generate
+import richer
+from driver import BadCall, Driver
+from enumeration import Enumeration
+from formulas import MOST_BYTES, MOST_PARTS, Refused, within
+from jobs import Job
+from pack import MOST_JOB, formula_bytes
+from pairs import SLOT, Answer, TooMany, slots
+from tally import Tally
+from written import check_written
 
-LEAVES = [[0x00], [0x01], [0x02]]
+MOST_PAIRS = 500    # jobs that reach more are left out, since the oracle is slow
 
-
-class Driver:
-    def __init__(self, path):
-        self.process = subprocess.Popen([path], stdin=subprocess.PIPE, stdout=subprocess.PIPE)
-
-    def call(self, kind, job, table, plan):
-        self.process.stdin.write(kind + struct.pack("<3I", len(job), len(table), len(plan)) + job + table + plan)
-        self.process.stdin.flush()
-        numbers = struct.unpack("<3Q", self.process.stdout.read(24))
-        return numbers, self.process.stdout.read(len(table)), self.process.stdout.read(len(plan))
-
-
-# ---- random jobs
-
-
-def formula(rng, facts, steps, depth):
-    if depth == 0 or rng.random() < 0.25:
-        choice = rng.random()
-        if choice < 0.45 or (choice < 0.9 and not steps):
-            return [0x03, rng.randrange(facts)]
-        if choice < 0.9:
-            return [0x04, rng.randrange(steps)]
-        return rng.choice(LEAVES)
-    code = rng.choice([0x10, 0x11, 0x12, 0x20, 0x21, 0x22, 0x23, 0x24])
-    arity = 2 if code in (0x11, 0x12, 0x23, 0x24) else 1
-    return [code] + [b for _ in range(arity) for b in formula(rng, facts, steps, depth - 1)]
+# the planner uses its memo where the formulas' bytes, times the table's places or the list's steps, come to this number (docs/DECISIONS.md)
+MEMO = 4096
 
 
-def long_formula(rng, facts, steps):
-    """A formula of 16 to 128 bytes with at most four carried parts."""
-    while True:
-        code = formula(rng, facts, steps, 5)
+class Comparison:
+    def __init__(self, path, seed):
+        self.driver, self.seed, self.rng, self.at, self.tally = Driver(path), seed, random.Random(seed), 0, Tally()
+
+    def fail(self, message):
+        sys.exit(f"seed {self.seed}, job {self.at}: {message}")
+
+    def call(self, called, function, *arguments):
         try:
-            parts = len(carried(read_section(bytes(code), 0, len(code), facts, steps)))
+            return function(*arguments)
+        except BadCall as bad:
+            self.fail(f"{called}: {bad}")
+
+    # ---- one job
+
+    def next_job(self):
+        """The bytes of a job, and if it is accepted the job and its answer, else its refusal."""
+        rng = self.rng
+        while True:
+            make, = rng.choices([generate.small_job, richer.richer_job, richer.wide_job, richer.large_job], [30, 62, 3, 5])
+            data = make(rng)
+            if rng.random() < 0.04:
+                data = generate.many_parts(rng, data)
+            if rng.random() < 0.2:
+                data = generate.damaged(rng, data)
+            try:
+                job = Job(data)
+                return data, None, job, Answer(job, MOST_PAIRS)
+            except Refused as refused:
+                return data, refused, None, None
+            except TooMany:
+                continue
+
+    def one_job(self):
+        data, refused, job, answer = self.next_job()
+        if refused:
+            self.tally.count_true("jobs with", {"place over 255": refused.place > 255})
+        else:
+            self.count_job(data, job, answer)
+        lists = self.enumeration(data, job) if job else None
+        for room in self.rooms(answer):
+            self.search(data, refused, answer, lists, room)
+        for steps in self.step_lists(data, job, answer):
+            self.read_through(data, refused, job, steps)
+        self.write_back()
+
+    def count_job(self, data, job, answer):
+        formulas = job.rules + job.hints
+        lengths = [e - a for a, e in zip(job.offsets[1:], job.offsets[2:] + [len(data)])]
+        self.tally.count("jobs with the operator", *{f[0] for r in formulas for f in within(r.formula)})
+        self.tally.count("jobs with", *answer.events)
+        self.tally.count_true("jobs with", {
+            "over 2 pairs": answer.reached > 2,
+            "plan through a merge": answer.merged,
+            "plan of 4 steps or more": len(answer.path) >= 4,
+            "64 facts": data[0] == 64,
+            "64 steps": data[1] == 64,
+            "8 rules and 8 hints": data[2] == data[3] == 8,
+            "rule of 128 bytes": MOST_BYTES in lengths,
+            "the most bytes": len(data) == MOST_JOB,
+            "offset over 255": job.offsets[-1] > 255,
+            "rule of 5 parts": any(len(r.parts) == MOST_PARTS - 1 for r in formulas),
+            "rule of 6 parts": any(len(r.parts) == MOST_PARTS for r in formulas),
+        })
+
+    # ---- search
+
+    def rooms(self, answer):
+        """Bytes of table and plan buffer for two searches: near what is needed, and any."""
+        rng = self.rng
+        reached, steps = (answer.reached, len(answer.path)) if answer else (1, 1)
+        near = rng.choice([1, reached // 2, reached - 1, reached, reached, reached + 1])
+        for places in (max(0, near), rng.choice([0, 2, 5, 12, 64, 200, 512, 512])):
+            yield places * SLOT + rng.randrange(SLOT), max(0, rng.choice([0, steps - 1, steps, steps, steps + 1, steps + 5, 40]))
+
+    def search(self, data, refused, answer, lists, room):
+        table, plan = self.rng.randbytes(room[0]), self.rng.randbytes(room[1])
+        called = f"search of {data.hex()} in a table of {len(table)} bytes, plan buffer {plan.hex()}"
+        numbers, *lent = self.call(called, self.driver.search, data, table, plan)
+        ends = expect.search(refused, answer, table, plan)
+        if (numbers, *lent) not in ends:
+            def shown(numbers, after, plan):
+                state = "as it was" if after == table else "not cleared" if any(after) else "cleared"
+                return f"{numbers}, plan buffer {plan.hex()}, table {state}"
+            self.fail(f"{called}: got {shown(numbers, *lent)}; wanted {' or '.join(shown(*end) for end in ends)}")
+        self.tally.count("search", numbers[0])
+        if refused:
+            return
+        self.tally.count_true("calls with", {
+            "search with a memo": formula_bytes(data) * slots(table) >= MEMO,
+            "10 where an answer exists": numbers[0] == 10 and answer.number == 0,
+            "over 64 slots": numbers[0] != 10 and answer.needed > 64,
+            "as many slots as pairs": slots(table) == answer.reached,
+            "one slot fewer": slots(table) == answer.reached - 1,
+            "a buffer as long as the plan": numbers[0] == 0 and len(plan) == len(answer.path),
+            "one byte shorter": numbers[0] == 13 and len(plan) == len(answer.path) - 1,
+        })
+        if lists and numbers[0] != 10:
+            self.compare_enumerated(called, numbers, lent[1][:numbers[2]], lists)
+
+    def enumeration(self, data, job):
+        """All short lists of the job, if they decide what a search must give."""
+        if job.hints and not all(s[3] for s in job.steps):
+            return None
+        lists = Enumeration(job, formula_bytes(data))
+        return lists if lists.decides() else None
+
+    def compare_enumerated(self, called, numbers, steps, lists):
+        why = lists.contradicts(numbers, steps)
+        if why:
+            self.fail(f"{called}: got {numbers}, steps {list(steps)}, but of the lists of up to {lists.length} steps {why}")
+        if lists.best:
+            self.tally.count_true("calls with", {
+                "enumeration": True,
+                "enumeration and hints": lists.job.hints,
+                "enumeration of 4 steps or more": numbers[0] == 0 and lists.best[1] >= 4,
+                "enumeration and 13": numbers[0] == 13,
+            })
+
+    # ---- read-through
+
+    def step_lists(self, data, job, answer):
+        """Step lists for a job: any numbers, the plan, applicable steps, and a list so long that the memo is used."""
+        rng = self.rng
+        numbers = data[1] + 2 if job else 5
+        yield bytes(rng.randrange(numbers) for _ in range(rng.randint(0, 4)))
+        if job:
+            yield bytes(answer.path)
+            for _ in range(2):
+                yield generate.walk_to_goal(rng, job, rng.randint(0, 12), 0)
+            size = formula_bytes(data)
+            if size >= 20:
+                yield generate.walk_to_goal(rng, job, MEMO // size + rng.randint(1, 60), MEMO // size + 1)
+
+    def read_through(self, data, refused, job, steps):
+        called = f"read-through of {list(steps)} in {data.hex()}"
+        numbers = self.call(called, self.driver.read_through, data, steps)
+        wanted = expect.read_through(refused, job, steps)
+        if numbers != wanted:
+            self.fail(f"{called}: got {numbers}, wanted {wanted}")
+        self.tally.count("read-through", numbers[0])
+        if job:
+            self.tally.count_true("calls with", {"read-through with a memo": formula_bytes(data) * len(steps) >= MEMO})
+
+    # ---- writing back
+
+    def write_back(self):
+        rng = self.rng
+        facts, steps, rule = generate.rule_to_write(rng)
+        try:
+            check_written(rng, expect.read_rule(facts, steps, rule), facts, steps)
         except Refused:
-            continue
-        if 16 <= len(code) <= 128 and parts <= 4:
-            return code
-
-
-def random_job(rng):
-    facts, steps = rng.randint(1, 3), rng.choice([0, 1, 2, 2, 3, 3, 4])
-    long = rng.random() < 0.1
-    few = lambda: rng.choice([0, 0, 0, 1, 1, 2])
-    subset = lambda p: sum(1 << i for i in range(facts) if rng.random() < p)
-    sections = [subset(0.3).to_bytes(8, "little") + subset(0.4).to_bytes(8, "little")]
-    for _ in range(steps):
-        for p in (0.3, 0.4, 0.3):
-            sections[0] += subset(p).to_bytes(8, "little")
-        sections[0] += rng.choice([0, 0, 1, 1, 2, 3, 65535]).to_bytes(2, "little")
-    rules, hints = few(), few()
-    for _ in range(rules + hints):
-        sections.append(bytes(long_formula(rng, facts, steps) if long else formula(rng, facts, steps, rng.randint(0, 3))))
-    offset, pairs = 4 + 4 * len(sections), b""
-    for section in sections:
-        pairs += struct.pack("<2H", offset, len(section))
-        offset += len(section)
-    return bytes([facts, steps, rules, hints]) + pairs + b"".join(sections)
-
-
-def damaged(rng, job):
-    data = bytearray(job)
-    for _ in range(rng.randint(1, 2)):
-        kind = rng.random()
-        if kind < 0.15:
-            del data[rng.randrange(len(data) + 1):]
-        elif kind < 0.25:
-            data += bytes(rng.randrange(256) for _ in range(rng.randint(1, 3)))
-        elif data:
-            # most often in the head and the pairs, or in the formulas at the end
-            at = rng.choice([rng.randrange(len(data)), rng.randrange(min(24, len(data))), len(data) - 1 - rng.randrange(min(12, len(data)))])
-            data[at] = rng.choice([0, 1, 2, 3, 4, 0x10, 0x11, 0x20, 0x21, 0x23, 65, 255, rng.randrange(256)])
-    return bytes(data)
-
-
-def many_parts(rng, job):
-    """The job with one more rule of many carried parts, in place of all its formulas."""
-    facts, steps = job[0], job[1]
-    task = job[4 + 4 * (1 + job[2] + job[3]):][:16 + 26 * steps]
-    rule = bytes([rng.choice([0x20, 0x21, 0x22]) for _ in range(rng.randint(5, 9))] + [0x03, 0])
-    return bytes([facts, steps, 1, 0]) + struct.pack("<4H", 12, len(task), 12 + len(task), len(rule)) + task + rule
-
-
-def formula_bytes(job):
-    """How many bytes the formulas of a whole job have."""
-    return len(job) - (4 + 4 * (1 + job[2] + job[3])) - (16 + 26 * job[1])
-
-
-def long_walk(rng, job, count):
-    """So many applicable steps at random, or as many as there are."""
-    parsed, steps = Job(job), []
-    facts = parsed.start
-    for _ in range(count):
-        able = [s for s in range(len(parsed.steps)) if parsed.applicable(s, facts)]
-        if not able:
-            break
-        steps.append(rng.choice(able))
-        facts = parsed.after(steps[-1], facts)
-    return bytes(steps)
-
-
-# ---- what the document wants
-
-
-def wanted_search(job, table, plan):
-    """The ends that document 01 allows: (number, place or cost, steps), table, plan."""
-    cleared = bytes(len(table))
-    try:
-        parsed = Job(job)
-    except Refused as r:
-        return [((r.number, r.place, 0), table, plan)], r.number
-    answer, reached = parsed.solve()
-    if isinstance(answer, int):
-        ends = [((answer, 0, 0), cleared, plan)]
-    elif len(answer[1]) > len(plan):
-        ends = [((13, len(answer[1]), 0), cleared, plan)]
-    else:
-        steps = bytes(answer[1])
-        ends = [((0, answer[0], len(steps)), cleared, steps + plan[len(steps):])]
-    if reached > slots(table):
-        ends.append(((10, 0, 0), cleared, plan))
-    return ends, ends[0][0][0]
-
-
-def wanted_validate(job, steps):
-    try:
-        cost, bits = Job(job).read_through(list(steps))
-        return (0, cost, bits)
-    except Refused as r:
-        return (r.number, r.place, 0)
-
-
-def enumerate_lists(job, answer):
-    """Without hints, the answer against every step list of few steps."""
-    parsed = Job(job)
-    if parsed.hints:
-        return
-    best = parsed.best_up_to(5)
-    if answer[0] == 0 and answer[2] <= 5:
-        if best is None or (best[0], best[1]) != (answer[1], answer[2]):
-            sys.exit(f"enumeration differs: {best} {answer} {job.hex()}")
-    elif best is not None and (answer[0] == 12 or answer[0] == 0 and best[0] < answer[1]):
-        sys.exit(f"enumeration found a plan: {best} {answer} {job.hex()}")
+            pass
+        needed = expect.write_back(facts, steps, rule, b"")[0][1]
+        buffer = rng.randbytes(max(0, rng.choice([0, needed - 1, needed, needed, needed + 1, rng.randint(0, 300)])))
+        called = f"writing back {rule.hex()} for {facts} facts and {steps} steps into {buffer.hex()}"
+        numbers, written = self.call(called, self.driver.write_back, facts, steps, rule, buffer)
+        wanted = expect.write_back(facts, steps, rule, buffer)
+        if (numbers, written) != wanted:
+            self.fail(f"{called}: got {numbers} {written.hex()}, wanted {wanted[0]} {wanted[1].hex()}")
+        self.tally.count("write-back", numbers[0])
+        self.tally.count_true("calls with", {"over 128 bytes written": numbers[0] == 0 and numbers[1] > MOST_BYTES})
 
 
 def main():
     seed = int(sys.argv[2]) if len(sys.argv) > 2 else 20261115
     jobs = int(sys.argv[3]) if len(sys.argv) > 3 else 4000
-    rng, driver, met = random.Random(seed), Driver(sys.argv[1]), {}
-    remembered = {"s": 0, "v": 0}
-    for count in range(jobs):
-        job = random_job(rng)
-        if rng.random() < 0.05:
-            job = many_parts(rng, job)
-        if rng.random() < 0.2:
-            job = damaged(rng, job)
-        size = rng.choice([0, 1, 2, 3, 4, 5, 6, 8, 12, 64, 64, 64, 512, 512]) * 160 + rng.randrange(160)
-        table = rng.randbytes(size)
-        plan = bytes(rng.randrange(256) for _ in range(rng.choice([0, 1, 2, 3, 4, 6, 8, 40])))
-        ends, main_number = wanted_search(job, table, plan)
-        got = driver.call(b"s", job, table, plan)
-        if got not in ends:
-            sys.exit(f"seed {seed}, job {count}: search of {job.hex()} in {len(table)} bytes, buffer {len(plan)}: got {got[0]}, wanted {[e[0] for e in ends]}")
-        met[got[0][0]] = met.get(got[0][0], 0) + 1
-        if main_number in (0, 12) and got[0][0] == main_number:
-            enumerate_lists(job, got[0])
-        lists = [bytes(rng.randrange(5) for _ in range(rng.randint(0, 4)))]
-        if got[0][0] == 0:
-            lists.append(got[2][:got[0][2]])
-        # a large table, or a long list, makes the planner keep what residuals leave
-        if main_number == 0 or main_number > 5:
-            worlds = 4096 // max(1, formula_bytes(job))
-            if formula_bytes(job) and worlds <= slots(table):
-                remembered["s"] += 1
-            if 20 <= formula_bytes(job):
-                lists.append(long_walk(rng, job, worlds + rng.randint(0, 60)))
-                remembered["v"] += len(lists[-1]) >= worlds
-        for steps in lists:
-            numbers, _, kept = driver.call(b"v", job, b"", steps)
-            want = wanted_validate(job, steps)
-            if numbers != want or kept != steps:
-                sys.exit(f"seed {seed}, job {count}: read-through of {list(steps)} in {job.hex()}: got {numbers}, wanted {want}")
-            met[numbers[0]] = met.get(numbers[0], 0) + 1
-    if min(remembered.values()) < jobs // 50:
-        sys.exit(f"seed {seed}: too few large tables or long lists: {remembered}")
-    missing = [n for n in range(14) if n not in met]
-    if missing:
-        sys.exit(f"seed {seed}: never met {missing}")
-    print(f"{jobs} random jobs, seed {seed}: all as document 01 says; numbers met: " + " ".join(f"{n}:{met[n]}" for n in sorted(met))
-          + f"; with a memo: {remembered['s']} searches, {remembered['v']} read-throughs")
+    comparison = Comparison(sys.argv[1], seed)
+    for comparison.at in range(jobs):
+        comparison.one_job()
+    seldom = comparison.tally.seldom(jobs)
+    if seldom:
+        sys.exit(f"seed {seed}: too seldom: " + "; ".join(seldom))
+    print(f"{jobs} random jobs, seed {seed}: all as document 01 says; {comparison.tally}")
 
 
 if __name__ == "__main__":

@@ -1,35 +1,90 @@
-/* Serves the planner's functions to another program over standard input and output, so that it can compare answers and buffers.
- * A request is a byte ('s' search, 'v' read-through), three 32-bit lengths (job, table, plan or steps) and those bytes; the reply is three 64-bit
- * numbers (what the function answers, out[0], out[1]) and the table and plan bytes as they are afterwards. Numbers are little-endian. */
+/* Serves the planner's functions to another program over standard input and output, so that it can compare answers and lent bytes.
+ *
+ * A request is a byte ('s' search, 'v' read-through, 'w' writing back), two 64-bit numbers (facts and steps for writing back, else not used), three
+ * 32-bit lengths and three slices of these lengths:
+ *     s  job, table, plan buffer      v  job, nothing, step list      w  rule, nothing, buffer
+ * The reply is three 64-bit numbers (what the function answers, out[0], out[1]) and the three slices as they are afterwards. Numbers are
+ * little-endian.
+ *
+ * Each slice ends where its pages end, with a page after them and one before them that cannot be touched, so that the first byte that a function
+ * reads or writes after a slice ends this program. The bytes just before a slice are looked at after the call. */
 #include <stdio.h>
 #include <stdlib.h>
+#include <string.h>
+#include <sys/mman.h>
+#include <unistd.h>
 
 #include "dagzhimo.h"
 
-static uint8_t *take(size_t length) {
-    uint8_t *bytes = malloc(length ? length : 1);
-    if (!bytes || fread(bytes, 1, length, stdin) != length) exit(2);
-    return bytes;
+enum { BEFORE = 64, PAINT = 0xee };
+
+/* Pages that can be used, between two that cannot; they are kept from call to call and only replaced by more. */
+struct room {
+    uint8_t *pages;
+    size_t size;
+};
+
+static void die(const char *why) {
+    fprintf(stderr, "driver: %s\n", why);
+    exit(2);
+}
+
+/* The last so many bytes of a room, with painted bytes before them. */
+static uint8_t *lend(struct room *room, size_t length) {
+    size_t page = (size_t)sysconf(_SC_PAGESIZE);
+    if (room->size < length + BEFORE) {
+        if (room->size) munmap(room->pages - page, room->size + 2 * page);
+        room->size = (2 * length + BEFORE + page - 1) / page * page;
+        uint8_t *all = mmap(NULL, room->size + 2 * page, PROT_NONE, MAP_PRIVATE | MAP_ANONYMOUS, -1, 0);
+        if (all == MAP_FAILED || mprotect(all + page, room->size, PROT_READ | PROT_WRITE)) die("no memory");
+        room->pages = all + page;
+    }
+    uint8_t *slice = room->pages + room->size - length;
+    memset(slice - BEFORE, PAINT, BEFORE);
+    return slice;
+}
+
+static void look_before(const uint8_t *slice) {
+    for (const uint8_t *at = slice - BEFORE; at < slice; at++)
+        if (*at != PAINT) die("a byte before a slice was written");
+}
+
+static void take(void *bytes, size_t length) {
+    if (fread(bytes, 1, length, stdin) != length) die("a request was cut off");
 }
 
 int main(void) {
+    static struct room rooms[4];
     int kind;
     while ((kind = getchar()) != EOF) {
+        uint64_t counts[2], number;
         uint32_t length[3];
-        if (fread(length, 4, 3, stdin) != 3) return 2;
-        uint8_t *job = take(length[0]), *table = take(length[1]), *plan = take(length[2]);
-        uint64_t reply[3] = {0, 0, 0};
+        uint8_t *slice[3];
+        take(counts, sizeof counts);
+        take(length, sizeof length);
+        for (int i = 0; i < 3; i++) {
+            slice[i] = lend(&rooms[i], length[i]);
+            take(slice[i], length[i]);
+        }
+        /* the room ends on a page, so out is aligned */
+        uint64_t *out = (uint64_t *)lend(&rooms[3], 2 * sizeof *out);
+        out[0] = out[1] = 0x7777777777777777;
         if (kind == 's')
-            reply[0] = dagzhimo_search(job, length[0], table, length[1], plan, length[2], reply + 1);
+            number = dagzhimo_search(slice[0], length[0], slice[1], length[1], slice[2], length[2], out);
+        else if (kind == 'v')
+            number = dagzhimo_validate(slice[0], length[0], slice[2], length[2], out);
+        else if (kind == 'w')
+            number = dagzhimo_write_back(counts[0], counts[1], slice[0], length[0], slice[2], length[2], out);
         else
-            reply[0] = dagzhimo_validate(job, length[0], plan, length[2], reply + 1);
-        fwrite(reply, 8, 3, stdout);
-        fwrite(table, 1, length[1], stdout);
-        fwrite(plan, 1, length[2], stdout);
+            die("unknown request");
+        fwrite(&number, sizeof number, 1, stdout);
+        fwrite(out, sizeof *out, 2, stdout);
+        for (int i = 0; i < 3; i++) {
+            look_before(slice[i]);
+            fwrite(slice[i], 1, length[i], stdout);
+        }
+        look_before((uint8_t *)out);
         fflush(stdout);
-        free(job);
-        free(table);
-        free(plan);
     }
     return 0;
 }

@@ -1,7 +1,7 @@
 // Runs the cases of document 01 that are to be executed, one after the other from standard input, and prints what each gives.
 // A case is a letter and four bytes, then its bytes:
 //   s  N 0 L L  a search of the L bytes that follow (low byte first), with a plan buffer of N bytes (2, 3 or 64)
-//   v  N 0 L L  a read-through of N steps, which stand first, in the job of L bytes behind them
+//   v  N 0 L L  a read-through of N steps, which stand first, in the job of L bytes after them
 //   w  N 0 V A  the rule of N bytes that follows, written back for V facts and A steps
 use libc::STDIN_FILENO;
 ghost use mathlib.Core.Path.{_≡_};
@@ -17,8 +17,9 @@ fn wide(x: u8) -> usize
 // A search with a table of 65,536 bytes.
 fn search(job: &[u8], plan: &mut [u8]) {
     let mut table = [0u8; 65536];
-    let end = search::search(job, &mut table, plan);
-    report::searched(end, plan);
+    let mut told = [0u64; 3];
+    let part = search::planned(job, &mut table, plan, &mut told);
+    report::planned(told, part);
 }
 
 // A search with a plan buffer of 2 or 3 bytes, or of 64.

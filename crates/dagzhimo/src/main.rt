@@ -6,6 +6,7 @@ fn main() {
     let n = io::read_full(STDIN_FILENO, &mut job);
     let mut table = [0u8; 65536];
     let mut plan = [0u8; 1024];
-    let end = search::search(&job[..n], &mut table, &mut plan);
-    report::searched(end, &plan);
+    let mut told = [0u64; 3];
+    let part = search::planned(&job[..n], &mut table, &mut plan, &mut told);
+    report::planned(told, part);
 }

@@ -9,13 +9,14 @@ use lib.ListN.{length, length-map}
 use Rattle.model.specs.exploration.Key.{Key, zeroKey, extend, Le}
 use Rattle.model.specs.exploration.System.{System}
 use Rattle.model.specs.exploration.Equations.{up-to, unbounded, Entries, Starts, Explores, NoGoal, some-cut, none-cut}
-use Rattle.model.specs.exploration.Explore.{Entry, reached, solve}
+use Rattle.model.specs.exploration.Explore.{Entry, Of, reached, solve}
+use Rattle.model.proofs.exploration.Stepping.{arrives-by}
 use Rattle.model.proofs.exploration.KeyLaws.{le-trans, not-below, extend-lt}
 use Rattle.model.proofs.exploration.Laws.{Laws, Finite}
 use Rattle.model.proofs.exploration.Each.{All}
 use Rattle.model.proofs.exploration.Counting.{Apart}
 use Rattle.model.proofs.exploration.Uniqueness.{unique}
-use Rattle.model.proofs.exploration.Solves.{Of, reached-solves}
+use Rattle.model.proofs.exploration.Solves.{reached-solves}
 use Rattle.model.proofs.exploration.Answered.{answer-is, reached-at-least}
 use Rattle.dijkstra.specs.Records.{Held, Table}
 use Rattle.dijkstra.specs.Search.{someCutIn, exhausted}
@@ -113,26 +114,15 @@ module _ (S : System) (laws : Laws S) where
       solves = up-solves S starts (x .expanding .inv) (up-to (q .key))
           (λ s r h o j l. le-trans j (q .key) (r .key) l (x .expanding .inv .order i s q r (x .expanding .held) h (x .expanding .taken) o)) made
 
-      -- What is taken is reached,
+      -- The node of a taken record is reached.
       taken-reached : (s : ℕ) (r : Held S) → Holds t s r → r .taken ≡ true → R (r .node) (r .key) (r .hints)
       taken-reached s r h y =
           let l = x .expanding .top s r h y in
           unique S laws (up-to (q .key)) (Up S t (up-to (q .key))) R solves (up-to-key (q .key)) (r .node) (r .key) (r .hints) l (s, r, h, refl, refl, refl, l)
 
-      -- and so is what an action leads to from there.
+      -- A node to which an action leads from a taken record that is not cut is reached.
       next-reached : (s : ℕ) (r : Held S) → Holds t s r → r .taken ≡ true → S .cut (r .hints) ≡ false → (a : ℕ) → a < S .actions → {n : S .Node} → S .step (r .node) a ≡ some n → (k : Key) × (g : S .Hints) × R n k g
-      next-reached s r h y c a b {n} l = truth .complete tt (record {
-        source = r .node;
-        key = r .key;
-        hints = r .hints;
-        action = a;
-        entry = taken-reached s r h y;
-        inRange = b;
-        uncut = c;
-        leads = l;
-        keyIs = refl;
-        hintsAre = refl;
-      })
+      next-reached s r h y c a b {n} l = truth .complete tt (arrives-by S R a (taken-reached s r h y) b c l)
 
       each-reached : (s : ℕ) (r : Held S) → Holds t s r → (k : Key) × (g : S .Hints) × R (r .node) k g
       each-reached zero r h =

@@ -7,10 +7,11 @@ use mathlib.Core.Option.{some}
 use mathlib.Core.List.{List, [], _∷_, _++_}
 use mathlib.Core.Logic.{inl}
 use lib.ListN.{length}
-use Rattle.model.specs.exploration.Key.{Key, zeroKey, extend, Le, Lt, First}
+use Rattle.model.specs.exploration.Key.{Key, zeroKey, Le, Lt, First}
 use Rattle.model.specs.exploration.System.{System}
-use Rattle.model.specs.exploration.Equations.{up-to, plan, Entries, Starts, Arrives, Explores, Uncut, Path, begin, onward, Plan}
+use Rattle.model.specs.exploration.Equations.{up-to, plan, Entries, Starts, Explores, Uncut, Path, begin, onward, Plan}
 use Rattle.model.specs.exploration.Explore.{solve}
+use Rattle.model.proofs.exploration.Stepping.{arrives-by}
 use Rattle.model.proofs.exploration.KeyLaws.{le-refl, le-trans, lt-le, extend-lt, extend-not-zero, first-trans, first-snoc}
 use Rattle.model.proofs.exploration.Laws.{Laws, Finite}
 use Rattle.model.proofs.exploration.Paths.{path-end, path-steps, path-cast}
@@ -19,7 +20,7 @@ use Rattle.dijkstra.specs.Records.{Held, Table, pathOf}
 use Rattle.dijkstra.specs.Search.{firstGoal}
 use Rattle.dijkstra.proofs.Slots.{Holds, holds-one}
 use Rattle.dijkstra.proofs.Goals.{AtGoal, goal-some}
-use Rattle.dijkstra.proofs.Invariant.{entry, Sent, Inv, linked-steps, path-suc, steps-linked, zero-slot, path-length, sized}
+use Rattle.dijkstra.proofs.Invariant.{Sent, Inv, linked-steps, path-suc, steps-linked, zero-slot, path-length, sized}
 use Rattle.dijkstra.proofs.Solution.{Up, as-sent, as-sent-key, was-made, start-node, up-solves}
 
 module _ (S : System) {m0 : S .Node} (starts : Starts S m0) {t : Table S} (inv : Inv S m0 t (Sent S t)) (k : Key)
@@ -60,18 +61,7 @@ module _ (S : System) {m0 : S .Node} (starts : Starts S m0) {t : Table S} (inv :
 
       go : Uncut S L m j → ((d : ℕ) (o : Held S) → Holds t d o → o .node ≡ m → o .key ≡ j → First (pathOf S t (o .key .steps) d) p) → First (pathOf S t (r .key .steps) i) (p ++ (a ∷ []))
       go v ih =
-          let x : Arrives S L n (extend j (S .cost a)) (S .carry (v .0) n a) = record {
-            source = m;
-            key = j;
-            hints = v .0;
-            action = a;
-            entry = v .1;
-            inRange = b;
-            uncut = v .2;
-            leads = s;
-            keyIs = refl;
-            hintsAre = refl;
-          } in
+          let x = arrives-by S L a (v .1) b (v .2) s in
           let sent = was-made S starts inv (up-to k) beyond (λ y z w. z) x (u .1 .6) in
           let f = (inv .gathers i r h away) .first (as-sent S starts inv (up-to k) beyond (λ y z w. z) x) sent (sym en, as-sent-key S starts inv (up-to k) beyond (λ y z w. z) x ∙ sym ek) in
           let o = v .1 .1 in

@@ -38,19 +38,19 @@ module _ (S : System) (slots : ℕ) where
         abbrev u : Table S
         u = mark S t (o .slot)
 
-        -- a turn that expands a slot,
+        -- A turn that expands a slot is right.
         expanding : (g : Filled S) → S .cut (r .hints) ≡ false → expand S slots u r (o .slot) (S .actions) ≡ g → Turned S slots ready e h f laws g → Right (turns S slots (suc n) t)
         unfolding turns
         expanding (goes-on v) c g w = rw (e, turns, f, h, c, g) (ih v (w .0) (omega (arith, w .1)))
         expanding full c g w = rw (e, turns, f, h, c, g) (inr (crowded S laws fin starts w, refl))
 
-        -- one that takes a slot,
+        -- A turn that takes a slot is right, cut or not.
         taking : (a : Bool) → S .cut (r .hints) ≡ a → Right (turns S slots (suc n) t)
         unfolding turns
         taking true c = let m = turn-cut S slots ready e h f c in rw (e, turns, f, h, c) (ih u (m .0) (omega (arith, m .1)))
         taking false c = expanding (expand S slots u r (o .slot) (S .actions)) c refl (turn-expanded S slots ready e h f laws c)
 
-      -- and any turn.
+      -- Every turn is right.
       turn : (o : Option Open) → leastOpen S t 0 ≡ o → Right (turns S slots (suc n) t)
       unfolding turns
       turn none e = rw (e, turns) (inl (ap answered (sym (exhausted-right S laws fin starts (ready .inv) (least-none S t e)))))

@@ -26,7 +26,7 @@ module _ {A : Type 0} where
   all-held P [] f = tt
   all-held P (x ∷ t) f = (f 0 x refl, all-held P t (λ i r h. f (suc i) r h))
 
-  -- u is t with v in slot j, which may be the first slot behind t
+  -- u is t with v in slot j, which may be the first slot after t
   pub record Put (t u : List A) (j : ℕ) (v : A) : Type 0 where
     pub new : Holds u j v
     pub old : (s : ℕ) → (s ≡ j → ⊥) → getElem? u s ≡ getElem? t s

@@ -83,7 +83,7 @@ module _ {job : List ℕ} {places n : ℕ} {t : List ℕ} {i : ℕ} {from : Slot
     unfolding heldIs
     parent-steps = linked-steps (sys job) link ∙ ap (λ (r : Held (sys job)). suc (r .key .steps)) (held-is job n t (old .parent) (link .held) .1)
 
-    -- So the paths can be compared,
+    -- The path to the slot and the new one can be compared: they are equally long.
     pub comparable : (n * 160 ≤ length t) × Chained (held t n) × (i < n) × (old .parent < n) × (stepsAt (held t n) i ≡ stepsAt (held t n) (old .parent))
     comparable = (
       room,
@@ -93,6 +93,6 @@ module _ {job : List ℕ} {places n : ℕ} {t : List ℕ} {i : ℕ} {from : Slot
       omega (arith, held-steps t n i (x .inside), held-steps t n (old .parent) parent-inside, source-steps, steps-more, parent-steps),
     )
 
-    -- and their order is that of the records' paths.
+    -- The order of the two paths in the table is that of the records' paths.
     pub compared : earlier (pathBy (sys job) (heldIn job n t) (old .steps) i a) (pathBy (sys job) (heldIn job n t) (old .steps) (old .parent) (old .action)) ≡ orderBy (held t n) i a (old .parent) (old .action)
     compared = order-held job n t (x .expanding .inv) room (old .steps) i a (old .parent) (old .action) (x .inside) parent-inside (steps-more ∙ ap suc source-steps) parent-steps

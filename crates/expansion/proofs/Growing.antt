@@ -5,7 +5,9 @@ use mathlib.Core.List.{List, [], _∷_, _++_}
 use Prim.Native.Nat.{ℕ, _+_, _*_, _≤_, _<_}
 use native.Mathlib.Omega.{arith}
 use lib.ListN.{length, set, take}
+use Rattle.model.specs.job.Job.{actionOf}
 use Rattle.model.specs.job.Layout.{constraintCount, jobOf}
+use Rattle.model.specs.task.State.{applicable}
 use Rattle.model.specs.search.Node.{sameNumbers}
 use Rattle.model.specs.search.JobSystem.{nextNode}
 use Rattle.model.proofs.job.NodeLaws.{numbers-eq}
@@ -16,7 +18,7 @@ use Rattle.table.specs.Slots.{slots}
 use Rattle.table.specs.Lookup.{findIn}
 use Rattle.nodes.specs.declared.Reached.{Reached}
 use Rattle.nodes.specs.Meaning.{nodeIs, Clean, Leads}
-use Rattle.nodes.proofs.Arrivals.{leads-some, leads-none}
+use Rattle.nodes.proofs.Arrivals.{leads-some, leads-none, next-none}
 use Rattle.dijkstra.specs.Records as search
 use Rattle.dijkstra.specs.Search.{Filled, goes-on, arrive, follow}
 use Rattle.dijkstra.proofs.Finding.{find-own}
@@ -49,7 +51,7 @@ module _ {job : List ℕ} {places n : ℕ} {t : List ℕ} {i : ℕ} {from : Slot
     fits = (x .running .used, r .sound);
   }
 
-  -- The node is new: it has the next slot, if there is one,
+  -- A new node takes the next slot, where one is free.
   pub grew-new : {u : List ℕ} {s : Slot} → f ≡ Nothing → slots u ≡ set (slots t) n s → Makes job (newcomer job i from a node node) s → n < places → Grew job places arrived (Held (n + 1)) u
   unfolding grownIs
   grew-new {u} {s} e d m l =
@@ -60,7 +62,7 @@ module _ {job : List ℕ} {places n : ℕ} {t : List ℕ} {i : ℕ} {from : Slot
         fits = (omega arith, append-sound job t u n s d h (m .sound) (x .running .sound));
       }
 
-  -- and the table is full if not.
+  -- A new node where no slot is free: the table is full.
   pub grew-full : {u : List ℕ} → f ≡ Nothing → places ≤ n → Grew job places arrived Full u
   unfolding grownIs
   grew-full e l = record {
@@ -69,6 +71,16 @@ module _ {job : List ℕ} {places n : ℕ} {t : List ℕ} {i : ℕ} {from : Slot
   }
 
 -- ---- one action
+
+-- It is not applicable: the table stays as it is.
+pub grew-past : {job : List ℕ} {places n : ℕ} {t : List ℕ} {i : ℕ} {from : Slot} {a : ℕ} → Arriving job places n t i from a
+    → applicable (actionOf (jobOf job) a) (nodeIs (constraintCount job) (from .node) .state) ≡ false
+    → Grew job places (follow (sys job) places (heldIn job n t) (heldIs job from) i a) (Held n) t
+unfolding heldIs grownIs
+grew-past {job} {places} {n} {t} {i} {from} {a} x e = record {
+  grows = cases.follow-none (sys job) places (heldIs job from) i (heldIn job n t) a (next-none (jobOf job) (nodeIs (constraintCount job) (from .node)) a e);
+  fits = (x .running .used, x .running .sound);
+}
 
 module _ {job : List ℕ} {places n : ℕ} {t : List ℕ} {i : ℕ} {from : Slot} {a : ℕ} (x : Arriving job places n t i from a) {to : Reached}
     (leads : Leads (constraintCount job) (nextNode (jobOf job) (nodeIs (constraintCount job) (from .node)) a) to) where

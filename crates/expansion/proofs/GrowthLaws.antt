@@ -13,17 +13,17 @@ use Rattle.expansion.specs.declared.Grown.the-variants.{Held, Full}
 use Rattle.expansion.specs.Growth.{grownIs, Fits, Grew}
 
 module _ {job : List ℕ} {places : ℕ} {to : Filled (sys job)} {r : Grown} {u : List ℕ} (g : Grew job places to r u) where
-  -- It is full,
+  -- The code says full where the table of the list search is full.
   pub grew-none : r ≡ Full → to ≡ full
   unfolding grownIs
   grew-none e = g .grows ∙ ap (λ (x : Grown). grownIs job x u) e
 
-  -- or it goes on with the slots in use,
+  -- Otherwise the list search goes on with the slots in use.
   pub grew-held : {m : ℕ} → r ≡ Held m → to ≡ goes-on (heldIn job m u)
   unfolding grownIs
   grew-held e = g .grows ∙ ap (λ (x : Grown). grownIs job x u) e
 
-  -- and the search runs on in it.
+  -- After that the search runs with the slots in use.
   pub grew-running : {m0 : Node} {n : ℕ} {t : List ℕ} {m : ℕ} → Running job m0 places n t → r ≡ Held m → length u ≡ length t → Running job m0 places m u
   grew-running {m = m} x e k =
       let f : Fits job places (Held m) u = subst (λ (s : Grown). Fits job places s u) e (g .fits) in

@@ -6,4 +6,5 @@ pub mod Merging
 pub mod Relaxing
 pub mod Growing
 pub mod GrowthLaws
+pub mod Choosing
 pub mod Turns

@@ -47,7 +47,7 @@ module _ {job : List ℕ} {places n : ℕ} {t : List ℕ} {i : ℕ} {from : Slot
         opened-makes job (old .node) hints _ p b (old .goal) e key-kept
         (met-carries (hintCount job) (old .hints) g met (old-sound .cleanHints) carried (few-hints job (x .running .accepted))) (old-sound .clean) (old-sound .marked) l m
 
-    -- The new way comes first,
+    -- Where the new path comes first, the merged record has its parent and action.
     pub merged-new : {s : Slot} {b : Bool} → s ≡ stored hints i a → b ≡ orderBy (held t n) i a (old .parent) (old .action) → b ≡ true
         → Makes job (tied (sys job) (heldIn job n t) (heldIs job old) h i a) s
     unfolding heldIs
@@ -55,7 +55,7 @@ module _ {job : List ℕ} {places n : ℕ} {t : List ℕ} {i : ℕ} {from : Slot
         rw (tied-new (sys job) (heldIn job n t) (heldIs job old) h i a (compared x ties ∙ sym q ∙ o))
         (makes-merged i a e (omega (arith, x .running .most, x .running .used, x .inside)) (omega (arith, x .known, few-actions job (x .running .accepted))))
 
-    -- or it does not, and the old one is kept.
+    -- Where the old path comes first, the merged record keeps its parent and action.
     pub merged-old : {s : Slot} {b : Bool} → s ≡ stored hints (old .parent) (old .action) → b ≡ orderBy (held t n) i a (old .parent) (old .action) → b ≡ false
         → Makes job (tied (sys job) (heldIn job n t) (heldIs job old) h i a) s
     unfolding heldIs

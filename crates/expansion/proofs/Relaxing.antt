@@ -31,14 +31,14 @@ module _ {job : List ℕ} {places n : ℕ} {t : List ℕ} {i : ℕ} {from : Slot
     become-is : relaxed (sys job) (heldIn job n t) (heldIs job (slotAt t j)) (keyBy job from a) (hintsBy job from a node) i a ≡ become
     become-is = ap (λ (s : Slot). relaxed (sys job) (heldIn job n t) (heldIs job s) (keyBy job from a) (hintsBy job from a node) i a) (sym is)
 
-    -- A slot is stored that stands for it,
+    -- The slot that is stored stands for what the search makes of the record.
     stored : {u : List ℕ} {s : Slot} {r : Held (sys job)} → slots u ≡ set (slots t) j s → Makes job r s → become ≡ r → Relaxed u
     stored {u} {s} {r} e m q = record {
       relaxes = store-held job t u j s e n l ∙ ap (set (heldIn job n t) j) (m .stands ∙ sym q ∙ sym become-is);
       sound = store-sound job t u j s e n l (m .sound) (x .running .sound);
     }
 
-    -- or none, where it stays as it is.
+    -- Nothing is stored where the record stays as it is.
     kept : become ≡ heldIs job old → Relaxed t
     kept q = record {
       relaxes = sym (ap (set (heldIn job n t) j) (become-is ∙ q ∙ ap (heldIs job) is) ∙ set-held (heldIn job n t) j (heldIs job (slotAt t j)) (held-slot x j l));
@@ -60,19 +60,19 @@ module _ {job : List ℕ} {places n : ℕ} {t : List ℕ} {i : ℕ} {from : Slot
       abbrev least : Key
       least = record { cost = old .cost; steps = old .steps }
 
-      -- A lesser key replaces,
+      -- A lesser key replaces the slot's.
       pub relax-less : less (keyIs key) least ≡ true → {u : List ℕ} {s : Slot} → slots u ≡ set (slots t) j s → Makes job (newcomer job i from a node (old .node)) s → Relaxed u
       unfolding heldIs
       relax-less p e m = stored e m (relaxed-less (sys job) (heldIn job n t) (heldIs job old) (hintsBy job from a node) i a (keyBy job from a) isOpen (rw (k .is) at p))
 
       module _ (p : less (keyIs key) least ≡ false) where
-        -- an equal one merges,
+        -- An equal key merges.
         pub relax-same : sameKey (keyIs key) least ≡ true → {u : List ℕ} {s : Slot} → slots u ≡ set (slots t) j s
             → Makes job (tied (sys job) (heldIn job n t) (heldIs job old) (hintsBy job from a node) i a) s → Relaxed u
         unfolding heldIs
         relax-same q e m = stored e m (relaxed-same (sys job) (heldIn job n t) (heldIs job old) (hintsBy job from a node) i a (keyBy job from a) isOpen (rw (k .is) at p) (rw (k .is) at q))
 
-        -- and a larger one changes nothing.
+        -- A larger key changes nothing.
         pub relax-more : sameKey (keyIs key) least ≡ false → Relaxed t
         unfolding heldIs
         relax-more q = kept (relaxed-more (sys job) (heldIn job n t) (heldIs job old) (hintsBy job from a node) i a (keyBy job from a) isOpen (rw (k .is) at p) (rw (k .is) at q))

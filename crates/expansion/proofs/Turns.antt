@@ -1,16 +1,19 @@
 -- All actions in order: what holds when those below a were followed, and how it comes out.
 use mathlib.Core.Path.{_≡_, refl, sym, ap, _∙_, subst}
-use mathlib.Core.Bool.{true}
+use mathlib.Core.Bool.{true, false}
 use mathlib.Core.List.{List}
 use Prim.Native.Nat.{ℕ, suc, _+_, _≤_, _<_}
 use native.Mathlib.Numerals.{add-one}
 use native.Mathlib.Omega.{arith}
 use lib.ListN.{length}
 use Rattle.model.specs.exploration.System.{System}
-use Rattle.model.specs.job.Layout.{actionCount}
+use Rattle.model.specs.job.Job.{actionOf}
+use Rattle.model.specs.job.Layout.{actionCount, constraintCount, jobOf}
 use Rattle.model.specs.search.Node.{Node}
+use Rattle.model.specs.task.State.{applicable}
 use Rattle.table.specs.declared.Slot.{Slot}
 use Rattle.table.specs.Slots.{slotAt}
+use Rattle.nodes.specs.Meaning.{nodeIs}
 use Rattle.dijkstra.specs.Records as search
 use Rattle.dijkstra.specs.Records.{take-it}
 use Rattle.dijkstra.specs.Search.{Filled, goes-on, follow, expand}
@@ -26,6 +29,7 @@ use Rattle.expansion.specs.declared.Grown.the-variants.{Held, Full}
 use Rattle.expansion.specs.Arrivals.{Arriving}
 use Rattle.expansion.specs.Growth.{grownIs, Grew}
 use Rattle.expansion.proofs.Cases as cases
+use Rattle.expansion.proofs.Growing.{grew-past}
 use Rattle.expansion.proofs.GrowthLaws.{grew-none, grew-held, grew-running}
 
 -- To take what is taken changes nothing.
@@ -79,7 +83,7 @@ module _ {job : List ℕ} {places n0 : ℕ} {t0 : List ℕ} {i : ℕ} {from : Sl
     more : expand (sys job) places (heldIn job n0 t0) (heldIs job from) i (suc a) ≡ next
     more = cases.expand-on (sys job) places (heldIs job from) i (heldIn job n0 t0) (heldIn job n t) a (g .followed)
 
-    -- The table is full, and stays so,
+    -- A full table stays full.
     pub going-full : {r : Grown} {u : List ℕ} → from ≡ slotAt t0 i → r ≡ Full → Grew job places next r u → Grew job places all Full u
     unfolding grownIs
     going-full e d w = record {
@@ -95,7 +99,7 @@ module _ {job : List ℕ} {places n0 : ℕ} {t0 : List ℕ} {i : ℕ} {from : Sl
         (follow-taken (sys job) (sys-laws job) places (heldIs job from)
         (subst (λ (r : search.Held (sys job)). Expanding (sys job) (g .m0) (heldIn job n t) i r a) (sym e) (g .expanding)) (omega (arith, sys-actions job)))
 
-    -- or it goes on.
+    -- A table that is not full goes on to the next action.
     pub going-on : {r : Grown} {u : List ℕ} {m : ℕ} → r ≡ Held m → Grew job places next r u → length u ≡ length t → Going job places n0 t0 i from m u (a + 1)
     going-on {r} {u} {m} d w k =
         let e : next ≡ goes-on (heldIn job m u) = grew-held w d in
@@ -110,3 +114,11 @@ module _ {job : List ℕ} {places n0 : ℕ} {t0 : List ℕ} {i : ℕ} {from : Sl
           upTo = l;
           followed = more ∙ e;
         })
+
+    -- It goes on, too, where the action is not applicable.
+    pub going-past : applicable (actionOf (jobOf job) a) (nodeIs (constraintCount job) (from .node) .state) ≡ false → Going job places n0 t0 i from n t (a + 1)
+    going-past e = going-on refl (grew-past going-next e) refl
+
+-- What holds of values holds of those that they are equal to.
+pub carried : (P : ℕ → List ℕ → List ℕ → Type 0) {m m′ : ℕ} {u u′ v v′ : List ℕ} → m ≡ m′ → u ≡ u′ → v ≡ v′ → P m′ u′ v′ → P m u v
+carried P e f g p = rw (e, f, g) p

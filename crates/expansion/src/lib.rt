@@ -9,11 +9,11 @@ use table::slots;
 use task::Key;
 ghost use mathlib.Core.Path.{_≡_};
 ghost use Prim.Native.Nat.{_<_};
-ghost use Rattle.model.specs.job.Layout.{constraintCount};
+ghost use Rattle.model.specs.job.Layout.{constraintCount, jobOf};
 ghost use Rattle.model.specs.search.Node.{sameNumbers};
 ghost use Rattle.table.specs.Slots.{slotAt};
 ghost use Rattle.progression.specs.Workspace.{Workspace};
-ghost use Rattle.nodes.specs.Meaning.{nodeIs, Clean};
+ghost use Rattle.nodes.specs.Meaning.{nodeIs, Applies, Clean};
 ghost use Rattle.dijkstra.specs.Search.{arrive, follow, expand};
 ghost use Rattle.held.specs.Held.{sys, heldIs, heldIn};
 ghost use Rattle.held.specs.Running.{Busy};
@@ -109,7 +109,7 @@ fn same_node(a: [u64; 9], b: [u64; 9]) -> bool
     true
 }
 
-// One action, from slot i, whose record is that of `from`. That slot is taken, so an arrival at its own node changes nothing.
+// One action that is applicable, from slot i, whose record is that of `from`. That slot is taken, so an arrival at its own node changes nothing.
 fn follow(
     job: &[u8],
     work: &mut [u64],
@@ -120,7 +120,8 @@ fn follow(
     from: Slot,
     a: u8,
 ) -> Grown
-    requires { ⌜ Arriving (now job) places n (now t) i from a × Workspace (now job) (now work) ⌝ }
+    requires { ⌜ Arriving (now job) places n (now t) i from a × Applies (jobOf (now job)) (nodeIs (constraintCount (now job)) (from .node)) a
+        × Workspace (now job) (now work) ⌝ }
     ensures { λ r. ⌜ Grew (now (job .entry)) places
         (follow (sys (now (job .entry))) places (heldIn (now (job .entry)) n (now (t .entry))) (heldIs (now (job .entry)) from) i a) r (now (t .exit))
         × Workspace (now (job .entry)) (now (work .exit)) ⌝ }
@@ -137,7 +138,8 @@ fn follow(
     arrive(job, work, t, n, places, i, from, a, node)
 }
 
-// All actions in order. The slot is read once: being taken, it does not change while it is expanded.
+// All applicable actions in order. The slot is read once: being taken, it does not change while it is expanded. Whether an action was chosen is
+// tested here and not in follow, so that nothing is copied for one that was not.
 pub fn expand(
     job: &[u8],
     work: &mut [u64],
@@ -153,13 +155,18 @@ pub fn expand(
 {
     let from = slots::load(t, i);
     let count = access::action_count(job);
+    let at = from.node;
+    let mut choices = nodes::choices(job, at);
     let mut held = n;
     let mut a = 0;
     while a < count {
-        let Grown::Held(m) = follow(job, work, t, held, places, i, from, a) else {
-            return Grown::Full;
-        };
-        held = m;
+        if choices % 2 == 1 {
+            let Grown::Held(m) = follow(job, work, t, held, places, i, from, a) else {
+                return Grown::Full;
+            };
+            held = m;
+        }
+        choices /= 2;
         a += 1;
     }
     Grown::Held(held)

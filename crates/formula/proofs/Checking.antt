@@ -25,7 +25,7 @@ checked s o (Whole n seen) = choose (ltb n (length s)) (Bad (refusal 4 (o + n)))
 checked s o (Wrong p) = Bad (refusal 4 (o + p))
 
 module _ (v a : ℕ) (s : List ℕ) (o : ℕ) where
-  -- a formula that does not end behind the bytes ends with them, or bytes are left
+  -- a formula that does not end after the bytes ends with them, or bytes are left
   check-whole : (φ : Formula) (n : ℕ) → n ≤ length s → checked s o (extent false none 0 (formula φ n)) ≡ formulaVerdict o (whole v a s (formula φ n))
   unfolding extent whole formulaVerdict
   check-whole φ n h = go (ltb n (length s)) refl

@@ -44,7 +44,7 @@ seen-next (binary Or φ ψ) s at = refl
 seen-next (binary Until φ ψ) s at = refl
 seen-next (binary Release φ ψ) s at = refl
 
--- and so it is among the parts of a next
+-- the operand of a next is noted among the parts, if it is not noted anyway
 see-next : (b : Bool) (p : Part) (s : Seen) (xs ys : List Part) {x y : Seen} → see s ys ≡ y → see (note s (p .position)) xs ≡ x
     → see s (elim b [ true ↦ ys | false ↦ p ∷ xs ]) ≡ choose b y x
 unfolding see
@@ -80,7 +80,7 @@ seen-parts (binary Release φ ψ) s n at = in-turn φ ψ (seen-parts φ) (seen-p
 note-more : (k z at : ℕ) → k < 6 → note (record { parts = k; seventh = z }) at ≡ record { parts = k + 1; seventh = z }
 note-more k z at h = rw (lt-ltb k 6 h)
 
--- behind the seventh part nothing changes
+-- after the seventh part nothing changes
 see-full : (ps : List Part) (z : ℕ) → see (record { parts = 7; seventh = z }) ps ≡ record { parts = 7; seventh = z }
 unfolding see
 see-full [] z = refl

@@ -30,12 +30,12 @@ module _ (b : ℕ) where
       go false true = g
       go false false = h
 
-  -- and so where it is noted only if it is a part
+  -- noting a formula only if it is a part keeps the seventh at most at b, too
   noteIf-inside : (t : Bool) (s : Seen) (at : ℕ) → s .seventh ≤ b → at ≤ b → noteIf t s at .seventh ≤ b
   noteIf-inside true s at h g = note-inside s at h g
   noteIf-inside false s at h g = h
 
-  -- no part of a formula stands behind its end
+  -- no part of a formula stands after its end
   seen-inside : (φ : Formula) (under : Bool) (s : Seen) (at : ℕ) → s .seventh ≤ b → at + size φ ≤ b → seenIn φ under s at .seventh ≤ b
   unfolding seenIn size
   seen-inside (constant c) under s at h g = noteIf-inside under s at h (omega arith)
@@ -84,7 +84,7 @@ module _ (v a : ℕ) (s : List ℕ) where
       go true true = tt
 
   module _ (rec : ℕ → Parsed) (up : (m : ℕ) → WrongUpTo (length s) (rec m)) where
-    -- so is what stands behind a code
+    -- what stands after a code is wrong only in the bytes or at their end
     operands-inside : (c : Code) (at : ℕ) → at < length s → WrongUpTo (length s) (operands v a s c rec at)
     unfolding operands
     operands-inside (Leaf c) at h = tt
@@ -94,7 +94,7 @@ module _ (v a : ℕ) (s : List ℕ) where
     operands-inside (Two o) at h = andThen-inside (length s) (rec (at + 1)) _ (up (at + 1)) (λ φ m. then-inside (length s) (binary o φ) (rec m) (up m))
     operands-inside Unknown at h = omega arith
 
-    -- and a node
+    -- a node is wrong only in the bytes or at their end
     node-inside : (at : ℕ) → WrongUpTo (length s) (node v a s rec at)
     unfolding node
     node-inside at = go (ltb at (length s)) refl
@@ -103,7 +103,7 @@ module _ (v a : ℕ) (s : List ℕ) where
         go false e = omega arith
         go true e = operands-inside (codeOf (getD s at 0)) at (ltb-true at (length s) e)
 
-  -- and a formula of any depth
+  -- a formula of any depth is wrong only in the bytes or at their end
   parse-inside : (k at : ℕ) → WrongUpTo (length s) (parse v a s k at)
   unfolding parse
   parse-inside zero at = omega arith
@@ -119,6 +119,6 @@ module _ (v a : ℕ) (s : List ℕ) where
           seen-inside (length s) φ under seen at h (omega (arith, parsed-size v a s at φ n e, parsed-inside v a s at φ n e))
       go (wrong p) e w = w
 
-  -- and so does an answer at the start
+  -- an answer at the start reports places in the bytes or at their end
   pub answer-inside : (r : Extent) → r ≡ extent false none 0 (parsed v a s 0) → (x : Extent) → r ≡ x → UpTo (length s) x
   answer-inside r e x f = subst (UpTo (length s)) (sym e ∙ f) (extent-inside false none 0 (omega arith))

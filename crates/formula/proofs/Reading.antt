@@ -25,7 +25,7 @@ abbrev goOn : Extent → (Bool → Seen → ℕ → Extent) → Extent
 goOn (Whole m between) r = r false between m
 goOn (Wrong p) r = Wrong p
 
--- what is answered behind a code at a position, where r answers for the operands and the parts are seen up to the code's own
+-- what is answered after a code at a position, where r answers for the operands and the parts are seen up to the code's own
 unfoldable pub reading : Code → (Bool → Seen → ℕ → Extent) → ℕ → ℕ → List ℕ → Seen → ℕ → Extent
 reading (Leaf c) r v a s here at = Whole (at + 1) here
 reading Fact r v a s here at = numberExtent v s here (at + 1)
@@ -79,7 +79,7 @@ module _ (v a : ℕ) (s : List ℕ) (under : Bool) (seen : Seen) (at : ℕ) wher
       go (formula φ m) e = extent-second o φ m (e φ m refl) (rec m)
       go (wrong p) e = refl
 
-  -- what stands behind a code
+  -- what stands after a code
   operands-read : (c : Code) (rec : ℕ → Parsed) → ((φ : Formula) (m : ℕ) → rec (at + 1) ≡ formula φ m → m ≡ at + 1 + size φ)
       → extent under seen at (operands v a s c rec at) ≡ reading c (λ u x m. extent u x m (rec m)) v a s (noteIf (under || carries c) seen at) at
   unfolding extent operands reading seenIn
@@ -97,7 +97,7 @@ module _ (v a : ℕ) (s : List ℕ) (under : Bool) (seen : Seen) (at : ℕ) wher
   read-is k h e =
       ap (extent under seen at) (by-code v a s at k h (sym e)) ∙ operands-read k (parsed v a s) (parsed-size v a s (at + 1))
 
-  -- a formula that was read ends behind its first byte
+  -- a formula that was read ends after its first byte
   pub read-grows : (r : Extent) → r ≡ extent under seen at (parsed v a s at) → (n : ℕ) (after : Seen) → r ≡ Whole n after → at < n
   unfolding extent
   read-grows r e n after f = go (parsed v a s at) refl e
@@ -119,7 +119,7 @@ module _ (r : Bool → Seen → ℕ → Extent) (v a : ℕ) (s : List ℕ) (here
     unfolding reading
     two-answers m between g x h = h ∙ sym (e ∙ ap (λ (z : Extent). goOn z r) (sym f ∙ g))
 
-    -- and else the answer for the first is
+    -- where the first of two operands is wrong, its answer is the answer
     pub two-wrong : (p : ℕ) → y ≡ Wrong p → Wrong p ≡ w
     unfolding reading
     two-wrong p g = sym (e ∙ ap (λ (z : Extent). goOn z r) (sym f ∙ g))

@@ -58,7 +58,7 @@ unfolding seenIn
 extent under s at (formula φ n) = Whole n (seenIn φ under s at)
 extent under s at (wrong p) = Wrong p
 
--- the same of a number behind a code, with the parts seen up to there
+-- the same of a number after a code, with the parts seen up to there
 unfoldable pub numberExtent : ℕ → List ℕ → Seen → ℕ → Extent
 numberExtent bound s seen at =
     choose (ltb at (length s)) (choose (ltb (getD s at 0) bound) (Whole (at + 1) seen) (Wrong at)) (Wrong (length s))

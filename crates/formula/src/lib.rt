@@ -21,7 +21,7 @@ pub struct Seen {
     pub seventh: usize,
 }
 
-// The position behind a formula, with the parts seen up to there; or the position of the first byte that is wrong.
+// The position after a formula, with the parts seen up to there; or the position of the first byte that is wrong.
 pub enum Extent {
     Whole(usize, Seen),
     Wrong(usize),

@@ -32,11 +32,11 @@ module _ (job : List ℕ) where
     pub length-all : length (map (heldIs job) ss) ≡ length ss
     length-all = length-map ss (heldIs job)
 
-    -- Slot i holds the record that it stands for,
+    -- Slot i holds the record that it stands for.
     pub all-held-at : (i : ℕ) → i < length ss → Holds (map (heldIs job) ss) i (heldIs job (getD ss i noSlot))
     all-held-at i h = map-at (heldIs job) ss i noSlot h
 
-    -- and no other.
+    -- Slot i holds no other record.
     pub all-held-is : (i : ℕ) {r : Held (sys job)} → Holds (map (heldIs job) ss) i r → (i < length ss) × (r ≡ heldIs job (getD ss i noSlot))
     all-held-is i h =
         let l : i < length ss = omega (arith, length-all, holds-lt (map (heldIs job) ss) i h) in
@@ -49,13 +49,13 @@ module _ (job : List ℕ) where
     pub length-held : n * 160 ≤ length t → length (heldIn job n t) ≡ n
     length-held h = rw (held-map n t) (length-all (take n (slots t)) ∙ length-first t n h)
 
-    -- Slot i holds the record that it stands for,
+    -- Slot i holds the record that it stands for.
     pub held-at : (i : ℕ) → i < n → n * 160 ≤ length t → Holds (heldIn job n t) i (heldIs job (slotAt t i))
     held-at i l h =
         let m : i < length (take n (slots t)) = omega (arith, length-first t n h) in
         rw (held-map n t, ← first-at t n i l) (all-held-at (take n (slots t)) i m)
 
-    -- and no other.
+    -- Slot i holds no other record.
     pub held-is : (i : ℕ) {r : Held (sys job)} → Holds (heldIn job n t) i r → (i < n) × (r ≡ heldIs job (slotAt t i))
     held-is i {r} h =
         let p = all-held-is (take n (slots t)) i (rw (held-map n t) at h) in

@@ -23,18 +23,18 @@ module _ (job : List ℕ) where
   sys-actions = length-actions job
 
   module _ (h : jobVerdict job ≡ Fine) where
-    -- An accepted job has finitely many nodes,
+    -- An accepted job has finitely many nodes.
     pub sys-finite : Finite (sys job)
     sys-finite = job-finite (jobOf job) (accepted-proper job h)
 
-    -- at most 64 actions,
+    -- An accepted job has at most 64 actions.
     pub few-actions : actionCount job ≤ 64
     few-actions = omega (arith, length-actions job, accepted-proper job h .few-actions)
 
-    -- at most 8 constraints,
+    -- An accepted job has at most 8 constraints.
     pub few-constraints : constraintCount job ≤ 8
     few-constraints = omega (arith, length-constraints job, accepted-proper job h .few-constraints)
 
-    -- and at most 8 hints.
+    -- An accepted job has at most 8 hints.
     pub few-hints : hintCount job ≤ 8
     few-hints = omega (arith, length-hints job, accepted-proper job h .few-hints)

@@ -1,4 +1,4 @@
--- How the records change where a slot is stored: in place of another, behind the last, or marked as taken.
+-- How the records change where a slot is stored: in place of another, after the last, or marked as taken.
 use mathlib.Core.Path.{_≡_, refl, sym, ap, _∙_}
 use mathlib.Core.List.{List, [], _∷_, _++_, map}
 use Prim.Native.Nat.{ℕ, zero, suc, _+_, _*_, _≤_, _<_}
@@ -34,28 +34,28 @@ all-set P (x ∷ l) (suc i) a p h = (h .0, all-set P l i a p (h .1))
 -- ---- a slot s stored as slot j: the table was t and is u
 
 module _ (t u : List ℕ) (j : ℕ) (s : Slot) (e : slots u ≡ set (slots t) j s) where
-  -- As one of the first n slots, it changes one of them,
+  -- Stored among the first n slots, it changes one of them.
   pub first-set : (n : ℕ) → j < n → take n (slots u) ≡ set (take n (slots t)) j s
   first-set n l = rw e (take-set-lt n (slots t) j s l)
 
-  -- and as the one behind them, it is one more.
+  -- Stored after the first j slots, it is one more.
   pub first-more : j * 160 + 160 ≤ length t → take (j + 1) (slots u) ≡ take j (slots t) ++ (s ∷ [])
   first-more h = rw (e, add-one) (take-suc-set (slots t) j s (slot-inside t j h))
 
 module _ (job t u : List ℕ) (j : ℕ) (s : Slot) (e : slots u ≡ set (slots t) j s) where
-  -- In place of another slot, it changes that slot's record,
+  -- Stored in place of another slot, it changes that slot's record.
   pub store-held : (n : ℕ) → j < n → heldIn job n u ≡ set (heldIn job n t) j (heldIs job s)
   store-held n l = rw (held-map job n u, held-map job n t, first-set t u j s e n l) (map-set (heldIs job) (take n (slots t)) j s)
 
-  -- and behind the last, it is one record more.
+  -- Stored after the last slot, it is one record more.
   pub append-held : j * 160 + 160 ≤ length t → heldIn job (j + 1) u ≡ heldIn job j t ++ (heldIs job s ∷ [])
   append-held h = rw (held-map job (j + 1) u, held-map job j t, first-more t u j s e h) (map-snoc (heldIs job) (take j (slots t)) s)
 
-  -- If it is sound, all slots stay sound,
+  -- All slots stay sound if a sound one is stored among them.
   pub store-sound : (n : ℕ) → j < n → Sound job s → SoundTo job n t → SoundTo job n u
   store-sound n l p h = rw (first-set t u j s e n l) (all-set (Sound job) (take n (slots t)) j s p h)
 
-  -- also where there is one more.
+  -- All slots stay sound if a sound one is stored after them.
   pub append-sound : j * 160 + 160 ≤ length t → Sound job s → SoundTo job j t → SoundTo job (j + 1) u
   append-sound h p k = rw (first-more t u j s e h) (all-append (Sound job) (take j (slots t)) (s ∷ []) k (p, tt))
 
@@ -71,12 +71,12 @@ module _ (job : List ℕ) where
   taken-sound s h = record { clean = h .clean; cleanHints = h .cleanHints; marked = h .marked; summed = h .summed }
 
 module _ (job t u : List ℕ) (i : ℕ) (e : slots u ≡ set (slots t) i (takenSlot (slotAt t i))) (n : ℕ) (l : i < n) (h : n * 160 ≤ length t) where
-  -- Its record is taken then,
+  -- The record of a slot that was marked is taken.
   pub mark-held : heldIn job n u ≡ mark (sys job) (heldIn job n t) i
   mark-held =
       store-held job t u i (takenSlot (slotAt t i)) e n l ∙ ap (set (heldIn job n t) i) (taken-held job (slotAt t i))
       ∙ sym (mark-is (sys job) (heldIn job n t) i (held-at job n t i l h))
 
-  -- and all slots stay sound.
+  -- All slots stay sound if one is marked.
   pub mark-sound : SoundTo job n t → SoundTo job n u
   mark-sound s = store-sound job t u i (takenSlot (slotAt t i)) e n l (taken-sound job (slotAt t i) (sound-at job n t s i l h)) s

@@ -37,7 +37,7 @@ module _ (job : List ℕ) where
   unfolding heldIs slots
   heldIn n table = map heldIs (take n (slots table))
 
-  -- What holds of every slot in use: nothing behind its last residuals, its goal mark is right, and costs are sums of 16-bit numbers.
+  -- What holds of every slot in use: nothing after its last residuals, its goal mark is right, and costs are sums of 16-bit numbers.
   pub record Sound (s : Slot) : Type 0 where
     pub clean : Clean (constraintCount job) (s .node)
     pub cleanHints : CleanHints (hintCount job) (s .hints)

@@ -1,21 +1,20 @@
 -- What acceptance says of a job's bytes, for the code that reads accepted jobs.
-use mathlib.Core.Path.{_≡_, refl, sym, ap, _∙_}
+use mathlib.Core.Path.{_≡_, _∙_}
 use Prim.Native.Nat.{ℕ, _+_, _-_, _≤_, _<_}
 use native.Mathlib.Omega.{arith}
-use native.Mathlib.Decide.{decLt}
 use mathlib.Core.List.{List}
 use lib.ListN.{length, take, drop, length-drop}
 use lib.Seq.{length-take-le}
 use Rattle.model.specs.declared.Verdict.the-variants.{Fine}
 use Rattle.model.specs.logic.Formula.{Formula}
 use Rattle.model.specs.logic.Parts.{partsOf}
-use Rattle.model.specs.logic.Reading.{Parsed, formula, wrong, parsed, section}
-use Rattle.model.specs.job.Job.{listOf, actionOf, noAction}
+use Rattle.model.specs.logic.Reading.{formula, parsed, section}
+use Rattle.model.specs.job.Job.{actionOf, noAction}
 use Rattle.model.specs.job.Layout.{factCount, actionCount, constraintCount, hintCount, pairCount, pairOffset, pairLength, sectionBytes, actionAt, formulaIn, formulaAt, jobOf}
-use Rattle.model.specs.job.Decoding.{formulaVerdict, headVerdict, pairsVerdict, taskVerdict, formulasVerdict, jobVerdict}
+use Rattle.model.specs.job.Decoding.{formulaVerdict, jobVerdict}
 use Rattle.model.proofs.logic.ReadingLaws.{section-from, parsed-wider}
-use Rattle.model.proofs.job.VerdictLaws.{bad-not-fine, orElse-fine, inTurn-fine, length-listOf, getD-listOf, all-getD}
-use Rattle.model.proofs.job.Accepted.{ProperJob, FewParts, accepted-proper}
+use Rattle.model.proofs.job.VerdictLaws.{getD-listOf}
+use Rattle.model.proofs.job.Accepted.{section-fine, accepted-checks, each-formula}
 use Rattle.job.specs.Laid.{Laid, Formulated}
 use Rattle.job.proofs.Bounds.{laid}
 
@@ -32,15 +31,6 @@ module _ (bytes : List ℕ) (i : ℕ) where
   lent-checked p q f g = rw (lent p q, p, f, g)
 
 module _ (bytes : List ℕ) where
-  -- A section that is fine holds a formula.
-  holds : (o i : ℕ) → formulaVerdict o (formulaIn bytes i) ≡ Fine → (n : ℕ) × (formulaIn bytes i ≡ formula (formulaAt bytes i) n)
-  unfolding formulaVerdict formulaAt
-  holds o i h = go (formulaIn bytes i) refl
-    where
-      go : (x : Parsed) → formulaIn bytes i ≡ x → (n : ℕ) × (formulaIn bytes i ≡ formula (formulaAt bytes i) n)
-      go (formula φ n) e = let a : formulaAt bytes i ≡ φ = rw (e, formulaAt) in (n, e ∙ ap (λ (x : Formula). formula x n) (sym a))
-      go (wrong p) e = absurd (bad-not-fine (rw (e, formulaVerdict) at h))
-
   section-size : (i : ℕ) → pairOffset bytes i + pairLength bytes i ≤ length bytes → length (sectionBytes bytes i) ≡ pairLength bytes i
   unfolding sectionBytes
   section-size i h = length-take-le (pairLength bytes i) (drop (pairOffset bytes i) bytes) (rw length-drop (omega arith))
@@ -53,10 +43,6 @@ module _ (bytes : List ℕ) where
       let p = section-from (factCount bytes) (actionCount bytes) (sectionBytes bytes i) φ n e in
       (parsed-wider (factCount bytes) (actionCount bytes) 64 64 (sectionBytes bytes i) v a 0 φ n (p .0), p .1)
 
-few-of : (f : ℕ → Formula) (n : ℕ) → FewParts (listOf f n) → (i : ℕ) → i < n → length (partsOf (f i)) ≤ 6
-few-of f n h i l =
-    rw (getD-listOf f n i (f 0) l) at (all-getD (λ φ. length (partsOf φ) ≤ 6) (f 0) (listOf f n) h i (rw length-listOf l))
-
 -- Action i of the job that the bytes stand for.
 pub action-of : (bytes : List ℕ) (i : ℕ) → i < actionCount bytes → actionOf (jobOf bytes) i ≡ actionAt bytes i
 unfolding actionOf jobOf
@@ -65,47 +51,24 @@ action-of bytes i l = getD-listOf (actionAt bytes) (actionCount bytes) i noActio
 -- ---- an accepted job
 module _ (bytes : List ℕ) (h : jobVerdict bytes ≡ Fine) where
   pub accepted-laid : Laid bytes
-  unfolding jobVerdict
-  accepted-laid =
-      let p = (orElse-fine (headVerdict bytes) _) .0 h in
-      laid bytes (p .0) (((orElse-fine (pairsVerdict bytes) _) .0 (p .1)) .0)
+  accepted-laid = laid bytes (accepted-checks bytes h .0) (accepted-checks bytes h .1)
 
-  -- Each formula's check was fine.
-  each-formula : (i : ℕ) → i < constraintCount bytes + hintCount bytes → formulaVerdict (pairOffset bytes (1 + i)) (formulaIn bytes (1 + i)) ≡ Fine
-  unfolding jobVerdict formulasVerdict
-  each-formula =
-      let p = (orElse-fine (headVerdict bytes) _) .0 h in
-      let q = (orElse-fine (pairsVerdict bytes) _) .0 (p .1) in
-      let r = (orElse-fine (taskVerdict bytes) (formulasVerdict bytes)) .0 (q .1) in
-      (inTurn-fine (constraintCount bytes + hintCount bytes) _) .0 (r .1)
-
-  -- Each formula is a constraint or a hint of the job, which has few carried parts.
-  few-carried : (i : ℕ) → i < constraintCount bytes + hintCount bytes → length (partsOf (formulaAt bytes (1 + i))) ≤ 6
-  unfolding jobOf
-  few-carried i l = go (decLt i (constraintCount bytes))
-    where
-      proper : ProperJob (jobOf bytes)
-      proper = accepted-proper bytes h
-
-      go : Dec (i < constraintCount bytes) → length (partsOf (formulaAt bytes (1 + i))) ≤ 6
-      go (yes a) = few-of (λ j. formulaAt bytes (1 + j)) (constraintCount bytes) (proper .constraint-parts) i a
-      go (no a) =
-          let e : 1 + constraintCount bytes + (i - constraintCount bytes) ≡ 1 + i = omega arith in
-          rw e at (few-of (λ j. formulaAt bytes (1 + constraintCount bytes + j)) (hintCount bytes) (proper .hint-parts) (i - constraintCount bytes) (omega arith))
-
-  formulated-behind : (i : ℕ) → i < constraintCount bytes + hintCount bytes → 1 + i < pairCount bytes → Formulated bytes (1 + i)
-  formulated-behind i l m = record {
+  formulated-next : (i : ℕ) → i < constraintCount bytes + hintCount bytes → 1 + i < pairCount bytes → Formulated bytes (1 + i)
+  formulated-next i l m = record {
     size = size;
     whole = rw exact at (found .1);
     read = rw exact at (read .0);
-    few-parts = few-carried i l;
+    few-parts = passed .1;
   }
     where
       size : length (sectionBytes bytes (1 + i)) ≡ pairLength bytes (1 + i)
       size = section-size bytes (1 + i) (accepted-laid .section (1 + i) m)
 
+      passed : ((n : ℕ) × (formulaIn bytes (1 + i) ≡ formula (formulaAt bytes (1 + i)) n)) × (length (partsOf (formulaAt bytes (1 + i))) ≤ 6)
+      passed = section-fine bytes (pairOffset bytes (1 + i)) (1 + i) (each-formula bytes h i l)
+
       found : (n : ℕ) × (formulaIn bytes (1 + i) ≡ formula (formulaAt bytes (1 + i)) n)
-      found = holds bytes (pairOffset bytes (1 + i)) (1 + i) (each-formula i l)
+      found = passed .0
 
       read : (parsed 64 64 (sectionBytes bytes (1 + i)) 0 ≡ formula (formulaAt bytes (1 + i)) (found .0)) × (found .0 ≡ length (sectionBytes bytes (1 + i)))
       read = section-read bytes (1 + i) (found .0) (formulaAt bytes (1 + i)) (accepted-laid .few-facts) (accepted-laid .few-actions) (found .1)
@@ -117,7 +80,7 @@ module _ (bytes : List ℕ) (h : jobVerdict bytes ≡ Fine) where
   unfolding pairCount
   accepted-formula i m l =
       let e : 1 + (i - 1) ≡ i = omega arith in
-      rw e at (formulated-behind (i - 1) (omega arith) (omega arith))
+      rw e at (formulated-next (i - 1) (omega arith) (omega arith))
 
   -- The formula in a section that is lent on.
   pub accepted-lent : (i : ℕ) {o n : ℕ} → 1 ≤ i → i < pairCount bytes → o ≡ pairOffset bytes i → n ≡ pairLength bytes i

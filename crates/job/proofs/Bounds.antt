@@ -1,46 +1,22 @@
 -- Where the head and the pairs of a job are fine, all that a reader looks at is there.
-use mathlib.Core.Path.{_≡_, refl, sym}
+use mathlib.Core.Path.{_≡_}
 use Prim.Native.Nat.{ℕ, zero, suc, _+_, _-_, _*_, _≤_, _<_}
 use native.Mathlib.Omega.{arith}
-use mathlib.Core.Bool.{Bool, true, false, _&&_, true≢false}
+use mathlib.Core.Bool.{true}
 use mathlib.Core.List.{List}
 use lib.Dec.{leb, eqb}
 use lib.ListN.{length}
 use borrow.Author.Tests.{leb-true, eqb-true}
 use Rattle.model.specs.declared.Verdict.the-variants.{Fine}
 use Rattle.model.specs.Verdict.{inTurn}
-use Rattle.model.specs.job.Layout.{factCount, actionCount, constraintCount, hintCount, pairCount, pairOffset, pairLength, actionOffset}
-use Rattle.model.specs.job.Decoding.{countsInRange, headVerdict, sectionStart, rightLength, pairVerdict, pairsVerdict}
+use Rattle.model.specs.job.Layout.{actionCount, pairCount, pairOffset, pairLength, actionOffset}
+use Rattle.model.specs.job.Decoding.{headVerdict, sectionStart, rightLength, pairVerdict, pairsVerdict}
 use Rattle.model.proofs.Tests.{and-both}
+use Rattle.model.proofs.job.Accepted.{four-true, FineHead, head-fine}
 use Rattle.model.proofs.job.VerdictLaws.{orElse-fine, unless-fine, inTurn-fine}
 use Rattle.job.specs.Laid.{Laid}
 
--- Four tests are true together only if each is.
-each-true : (a b c d : Bool) → a && b && c && d ≡ true → (a ≡ true) × (b ≡ true) × (c ≡ true) × (d ≡ true)
-each-true true true true d h = (refl, refl, refl, h)
-each-true true true false d h = absurd (true≢false (sym h))
-each-true true false c d h = absurd (true≢false (sym h))
-each-true false b c d h = absurd (true≢false (sym h))
-
 module _ (bytes : List ℕ) where
-  -- The tests of a head that is fine.
-  head-tests : headVerdict bytes ≡ Fine
-      → (leb 4 (length bytes) ≡ true) × (countsInRange (factCount bytes) (actionCount bytes) ≡ true) × (leb (constraintCount bytes) 8 ≡ true)
-      × (leb (hintCount bytes) 8 ≡ true)
-  unfolding headVerdict
-  head-tests h = each-true _ _ _ _ ((unless-fine _ 1 0) .0 h)
-
-  -- A head that is fine has its four bytes.
-  pub head-whole : headVerdict bytes ≡ Fine → 4 ≤ length bytes
-  head-whole h = leb-true 4 (length bytes) (head-tests h .0)
-
-  counts : (v a : ℕ) → countsInRange v a ≡ true → (1 ≤ v) × (v ≤ 64) × (a ≤ 64)
-  unfolding countsInRange
-  counts v a h =
-      let p = (and-both (leb 1 v && leb v 64) (leb a 64)) .0 h in
-      let q = (and-both (leb 1 v) (leb v 64)) .0 (p .0) in
-      (leb-true 1 v (q .0), leb-true v 64 (q .1), leb-true a 64 (p .1))
-
   -- The tests of a pair are true.
   abbrev PairTrue : ℕ → Type 0
   PairTrue i =
@@ -49,7 +25,7 @@ module _ (bytes : List ℕ) where
 
   pair-tests : (n : ℕ) → inTurn n (pairVerdict bytes) ≡ Fine → (i : ℕ) → i < n → PairTrue i
   unfolding pairVerdict
-  pair-tests n h i l = each-true _ _ _ _ ((unless-fine _ 2 i) .0 ((inTurn-fine n (pairVerdict bytes)) .0 h i l))
+  pair-tests n h i l = four-true _ _ _ _ ((unless-fine _ 2 i) .0 ((inTurn-fine n (pairVerdict bytes)) .0 h i l))
 
   -- A pair that is fine has its four bytes.
   pair-whole : (n : ℕ) → inTurn n (pairVerdict bytes) ≡ Fine → (i : ℕ) → i < n → 8 + 4 * i ≤ length bytes
@@ -77,12 +53,12 @@ module _ (bytes : List ℕ) where
   pub laid : headVerdict bytes ≡ Fine → pairsVerdict bytes ≡ Fine → Laid bytes
   unfolding pairsVerdict
   laid h p = record {
-    head = head-whole h;
-    some-facts = range .0;
-    few-facts = range .1;
-    few-actions = range .2;
-    few-constraints = leb-true _ 8 (head-tests h .2);
-    few-hints = leb-true _ 8 (head-tests h .3);
+    head = counts .whole;
+    some-facts = counts .some-facts;
+    few-facts = counts .few-facts;
+    few-actions = counts .few-actions;
+    few-constraints = counts .few-constraints;
+    few-hints = counts .few-hints;
     pair = pair-whole (pairCount bytes) each;
     section = λ i l. leb-true _ (length bytes) (tests i l .3);
     task = task-length _ (tests 0 some-pairs .2);
@@ -90,8 +66,8 @@ module _ (bytes : List ℕ) where
     few-bytes = λ i m l. formula-length i _ m (tests i l .2) .1;
   }
     where
-      range : (1 ≤ factCount bytes) × (factCount bytes ≤ 64) × (actionCount bytes ≤ 64)
-      range = counts (factCount bytes) (actionCount bytes) (head-tests h .1)
+      counts : FineHead bytes
+      counts = head-fine bytes h
 
       each : inTurn (pairCount bytes) (pairVerdict bytes) ≡ Fine
       each = (orElse-fine (inTurn (pairCount bytes) (pairVerdict bytes)) _) .0 p .0

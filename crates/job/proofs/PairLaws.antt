@@ -10,7 +10,7 @@ use Rattle.model.specs.job.Layout.{actionCount, pairCount, pairOffset, pairLeng
 use Rattle.model.specs.job.Decoding.{sectionStart, rightLength}
 
 module _ (bytes : List ℕ) where
-  -- The first section begins behind the pairs.
+  -- The first section begins after the pairs.
   pub start-first : (i : ℕ) {n : ℕ} → i ≡ 0 → n ≡ pairCount bytes → 4 + 4 * n ≡ sectionStart bytes i
   unfolding sectionStart
   start-first i e h = rw (e, h)

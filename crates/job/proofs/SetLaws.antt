@@ -12,7 +12,7 @@ use borrow.Author.Tests.{lt-ltb, le-ltb, ne-eqb}
 pub all-fit : (x n : ℕ) → x < 2 ^ 64 → n ≡ 64 → true ≡ ltb x (2 ^ n)
 all-fit x n l e = rw (e, lt-ltb x (2 ^ 64) l)
 
--- Nothing is left of it behind its lowest n bits.
+-- Nothing is left of it above its lowest n bits.
 pub none-above : (x n : ℕ) → eqb (x / 2 ^ n) 0 ≡ ltb x (2 ^ n)
 none-above x n = go (decLt x (2 ^ n))
   where

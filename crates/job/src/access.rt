@@ -2,7 +2,6 @@
 ghost use mathlib.Core.Path.{_≡_};
 ghost use Prim.Native.Nat.{_+_, _*_, _≤_, _<_};
 ghost use lib.ListN.{length};
-ghost use Rattle.model.specs.Bits.{numberAt};
 ghost use Rattle.model.specs.job.Layout.{factCount, actionCount, constraintCount, hintCount, pairCount, pairOffset, pairLength, actionOffset, actionAt, jobOf};
 
 pub fn fact_count(bytes: &[u8]) -> u8

@@ -4,7 +4,7 @@ use super::checks;
 use model::Verdict;
 ghost use mathlib.Core.Path.{_≡_};
 ghost use Prim.Native.Nat.{_+_, _<_};
-ghost use Rattle.model.specs.job.Layout.{constraintCount, hintCount, pairCount, pairOffset, formulaIn};
+ghost use Rattle.model.specs.job.Layout.{pairCount, pairOffset, formulaIn};
 ghost use Rattle.model.specs.job.Decoding.{formulaVerdict, formulasVerdict};
 ghost use Rattle.job.specs.Laid.{Laid};
 

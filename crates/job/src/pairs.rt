@@ -10,7 +10,7 @@ ghost use Rattle.model.specs.job.Layout.{pairCount};
 ghost use Rattle.model.specs.job.Decoding.{sectionStart, rightLength, pairVerdict, pairsVerdict};
 ghost use Rattle.job.specs.Checks.{pairFits};
 
-// Where section i is to begin: behind the pairs, or where the section before it ends.
+// Where section i is to begin: after the pairs, or where the section before it ends.
 fn section_start(bytes: &[u8], i: usize) -> usize
     requires { ⌜ 4 + 4 * i ≤ length (now bytes) ⌝ }
     ensures { λ r. ⌜ r ≡ sectionStart (now (bytes .entry)) i ⌝ }

@@ -7,7 +7,7 @@ ghost use Prim.Native.Nat.{_+_, _^_, _≤_, _<_};
 ghost use lib.Dec.{ltb};
 ghost use lib.ListN.{length};
 ghost use Rattle.model.specs.Verdict.{inTurn};
-ghost use Rattle.model.specs.job.Layout.{factCount, actionCount, actionOffset};
+ghost use Rattle.model.specs.job.Layout.{actionCount};
 ghost use Rattle.model.specs.job.Decoding.{setVerdict, actionVerdict, taskVerdict};
 ghost use Rattle.job.specs.Laid.{Laid};
 

@@ -5,4 +5,5 @@ pub mod logic
 pub mod task
 pub mod exploration
 pub mod job
+pub mod calls
 pub mod Examples

@@ -1,6 +1,7 @@
 -- The equations of exploration have one solution, `reached` is it, and `solve` answers by it.
 pub mod KeyLaws
 pub mod Laws
+pub mod Stepping
 pub mod Uniqueness
 pub mod Each
 pub mod Counting

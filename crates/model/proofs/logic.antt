@@ -4,6 +4,7 @@ pub mod SatLaws
 pub mod PartsLaws
 pub mod ProgressionLaws
 pub mod ResidualLaws
+pub mod OwnPartsLaws
 pub mod SettledLaws
 pub mod NamesLaws
 pub mod NnfLaws

@@ -2,3 +2,4 @@
 pub mod Search
 pub mod Validate
 pub mod WriteBack
+pub mod Numbers

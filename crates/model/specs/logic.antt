@@ -5,5 +5,6 @@ pub mod Parts
 pub mod Truth
 pub mod Sat
 pub mod Progression
+pub mod OwnParts
 pub mod Names
 pub mod NormalForm

@@ -1,4 +1,4 @@
-// The types that the definitions in specs/ and the code of every crate above share.
+// The types that the definitions in specs/ and the code of all crates share.
 
 // A formula with no operand and no number.
 pub enum Constant {

@@ -2,10 +2,12 @@
 use mathlib.Core.Path.{_≡_, refl, sym, ap, _∙_}
 use mathlib.Core.Bool.{Bool, true, false, not}
 use mathlib.Core.Option.{Option, none, some}
-use mathlib.Core.List.{List, _∷_}
-use Prim.Native.Nat.{ℕ, zero, suc, _+_, _-_, _≤_}
+use mathlib.Core.List.{List, [], _∷_}
+use Prim.Native.Nat.{ℕ, _+_, _≤_}
 use native.Mathlib.Omega.{arith}
-use lib.ListN.{length, take, drop, getD, replicate, length-drop, replicate-append-replicate, length-replicate}
+use lib.ListN.{length, take, drop, getD, length-drop}
+use Rattle.model.specs.logic.Formula.{Formula}
+use Rattle.model.specs.logic.Truth.{World}
 use Rattle.model.specs.job.Job.{Action, Job, actionOf}
 use Rattle.model.specs.task.State.{within, applicable, after}
 use Rattle.model.specs.search.Node.{Node, progressedAll, closingAll, someDead}
@@ -13,7 +15,7 @@ use Rattle.model.specs.search.JobSystem.{alive, nextNode, isGoal}
 use Rattle.progression.specs.Padded.{padded}
 use Rattle.progression.proofs.Padding.{take-padded}
 use Rattle.nodes.specs.declared.Reached.{Reached}
-use Rattle.nodes.specs.Meaning.{nodeIs, Clean, reachedIs, Made, Leads}
+use Rattle.nodes.specs.Meaning.{nodeIs, Applies, reachedIs, Made, Leads}
 use Rattle.nodes.proofs.Fields.{length-left}
 
 -- ---- what an answer says
@@ -44,35 +46,37 @@ made-leads {n} {s} {rs} l {r} e k m =
       clean = rw (m .holds) (ap (λ (x : List ℕ). s ∷ x) (rw t e));
     }
 
--- ---- the array that stands where nothing is reached
-
-take-zeros : (n m : ℕ) → n ≤ m → take {A = ℕ} n (replicate m 0) ≡ replicate n 0
-take-zeros zero m l = refl
-take-zeros (suc n) zero l = absurd (omega arith)
-take-zeros (suc n) (suc m) l = ap (λ (x : List ℕ). 0 ∷ x) (take-zeros n m (omega arith))
-
-clean-zeros : (n : ℕ) → n ≤ 8 → Clean n (replicate 9 0)
-unfolding padded
-clean-zeros n l =
-    let e : n + (8 - n) ≡ 8 = omega arith in
-    ap (λ (x : List ℕ). 0 ∷ x) (sym (rw (take-zeros n 8, length-replicate, replicate-append-replicate, e)))
-
 -- ---- actions
 
-module _ (j : Job) (n : ℕ) (node : List ℕ) (i : ℕ) {a : Action} (act : a ≡ actionOf j i) where
-  -- An action that is not applicable leads nowhere.
-  pub next-nowhere : applicable a (getD node 0 0) ≡ false → n ≤ 8 → Leads n (nextNode j (nodeIs n node) i) (record { alive = false; node = replicate 9 0 })
-  unfolding nextNode nodeIs reachedIs
-  next-nowhere e l = let q = rw act at e in record { leads = rw (q, nextNode); clean = clean-zeros n l }
+-- An action that is not applicable leads nowhere.
+pub next-none : (j : Job) (n : Node) (i : ℕ) → applicable (actionOf j i) (n .state) ≡ false → nextNode j n i ≡ none
+unfolding nextNode
+next-none j n i e = rw (e, nextNode)
 
-  -- Where it is applicable, the constraints see the state after it.
-  pub next-leads : {s : ℕ} {rs : List ℕ} {r : Reached} → applicable a (getD node 0 0) ≡ true → s ≡ after a (getD node 0 0)
-      → rs ≡ padded (progressedAll (j .constraints) (take n (drop 1 node)) (record { state = s; made = some i })) → Made n s rs r
-      → length (j .constraints) ≡ n → n + 1 ≤ length node → Leads n (nextNode j (nodeIs n node) i) r
-  unfolding nextNode nodeIs
-  next-leads {s} {rs} {r} e f g m k l =
-      rw (rw act at e, nextNode, ← act, ← f)
-      (made-leads _ g (length-left (j .constraints) n (drop 1 node) _ k (rw length-drop (omega arith))) m)
+-- Where it is applicable, the constraints see the state after it.
+pub next-leads : (j : Job) (n : ℕ) (node : List ℕ) (i : ℕ) {a : Action} {s : ℕ} {qs rs : List ℕ} {r : Reached} → a ≡ actionOf j i → Applies j (nodeIs n node) i
+    → s ≡ after a (getD node 0 0) → qs ≡ drop 1 node → rs ≡ padded (progressedAll (j .constraints) (take n qs) (record { state = s; made = some i }))
+    → Made n s rs r → length (j .constraints) ≡ n → n + 1 ≤ length node → Leads n (nextNode j (nodeIs n node) i) r
+unfolding nextNode nodeIs
+next-leads j n node i act e f d g m k l =
+    rw (e, nextNode, ← act, ← f)
+    (made-leads _ (rw d at g) (length-left (j .constraints) n (drop 1 node) _ k (rw length-drop (omega arith))) m)
+
+none-left : (φs : List Formula) (rs : List ℕ) (w : World) → length φs ≡ 0 → progressedAll φs rs w ≡ []
+unfolding progressedAll
+none-left [] rs w e = refl
+none-left (φ ∷ φs) rs w e = absurd (omega arith)
+
+abbrev zeros : List ℕ
+zeros = 0 ∷ 0 ∷ 0 ∷ 0 ∷ 0 ∷ 0 ∷ 0 ∷ 0 ∷ []
+
+-- Without constraints a node is its state alone.
+pub next-alone : (j : Job) (n : ℕ) (node : List ℕ) (i : ℕ) {a : Action} {s : ℕ} → a ≡ actionOf j i → Applies j (nodeIs n node) i → s ≡ after a (getD node 0 0)
+    → n ≡ 0 → length (j .constraints) ≡ n → n + 1 ≤ length node
+    → Leads n (nextNode j (nodeIs n node) i) (record { alive = true; node = s ∷ zeros })
+unfolding padded someDead
+next-alone j n node i {s = s} act e f z k l =
+    next-leads j n node i act e f refl (ap padded (sym (none-left (j .constraints) _ _ (k ∙ z)))) (made n s zeros _ false (sym z) refl refl) k l
 
 -- ---- the goal
 module _ (j : Job) (n : ℕ) (node : List ℕ) {g : ℕ} (goal : g ≡ j .goal) where

@@ -14,7 +14,7 @@ row-all zero (x ∷ l) e = absurd (omega arith)
 row-all (suc n) [] e = absurd (omega arith)
 row-all (suc n) (x ∷ l) e = ap (λ (k : List ℕ). x ∷ k) (row-all n l (omega arith))
 
--- The entries behind the first.
+-- The entries after the first.
 pub row-behind : (n : ℕ) (l : List ℕ) → length l ≡ suc n → row n (λ k. getD l (suc k) 0) ≡ drop 1 l
 row-behind n [] e = absurd (omega arith)
 row-behind n (x ∷ l) e = row-all n l (omega arith)

@@ -12,7 +12,7 @@ use Rattle.progression.specs.Padded.{padded}
 use Rattle.nodes.specs.Meaning.{nodeIs, Clean}
 use Rattle.nodes.proofs.Hints.{clean-length}
 
--- What is the same behind both decides nothing.
+-- What is the same after both decides nothing.
 same-append : (a b c : List ℕ) → length a ≡ length b → sameNumbers (a ++ c) (b ++ c) ≡ sameNumbers a b
 unfolding sameNumbers
 same-append [] [] c e = numbers-same c

@@ -1,13 +1,15 @@
 -- What the arrays of the code stand for in the model, and what the functions promise of them.
 use mathlib.Core.Path.{_≡_}
-use Prim.Native.Nat.{ℕ, _<_}
+use Prim.Native.Nat.{ℕ, zero, suc, _+_, _*_, _/_, _<_}
 use mathlib.Core.Bool.{true, false}
 use mathlib.Core.Option.{Option, none, some}
-use mathlib.Core.List.{List, _∷_}
-use lib.ListN.{take, drop, getD}
-use Rattle.model.specs.job.Job.{Job, actionOf}
+use mathlib.Core.List.{List, [], _∷_}
+use lib.ListN.{length, take, drop, getD}
+use Rattle.model.specs.job.Job.{Action, Job, actionOf}
+use Rattle.model.specs.task.State.{applicable}
 use Rattle.model.specs.search.Node.{Node}
 use Rattle.model.specs.search.JobSystem.{alive}
+use Rattle.task.specs.Applicable.{applicableSet}
 use Rattle.task.specs.declared.Action as code
 use Rattle.task.specs.Meaning.{actionIs}
 use Rattle.progression.specs.Padded.{padded}
@@ -17,7 +19,7 @@ use Rattle.nodes.specs.declared.Reached.{Reached}
 unfoldable pub nodeIs : ℕ → List ℕ → Node
 nodeIs n node = record { state = getD node 0 0; residuals = take n (drop 1 node) }
 
--- Nothing stands behind the last constraint, so equal nodes are equal arrays.
+-- Nothing stands after the last constraint, so equal nodes are equal arrays.
 abbrev pub Clean : ℕ → List ℕ → Type 0
 Clean n node = node ≡ getD node 0 0 ∷ padded (take n (drop 1 node))
 
@@ -25,7 +27,7 @@ Clean n node = node ≡ getD node 0 0 ∷ padded (take n (drop 1 node))
 unfoldable pub hintsIs : ℕ → List ℕ → List ℕ
 hintsIs n hints = take n hints
 
--- Nothing stands behind the last hint.
+-- Nothing stands after the last hint.
 abbrev pub CleanHints : ℕ → List ℕ → Type 0
 CleanHints n hints = hints ≡ padded (take n hints)
 
@@ -33,6 +35,21 @@ CleanHints n hints = hints ≡ padded (take n hints)
 unfoldable pub reachedIs : ℕ → Reached → Option Node
 unfolding nodeIs
 reachedIs n r = elim (r .alive) [ true ↦ some (nodeIs n (r .node)) | false ↦ none ]
+
+-- n actions of a job from action a on; none does anything after the last
+unfoldable pub actionsFrom : Job → ℕ → ℕ → List Action
+unfolding actionOf
+actionsFrom j a zero = []
+actionsFrom j a (suc n) = actionOf j a ∷ actionsFrom j (suc a) n
+
+-- the actions that are applicable in a state, looked up in whole eights: bit i is action i, and those after the job's last one do nothing
+unfoldable pub choicesIn : Job → ℕ → ℕ
+unfolding actionsFrom
+choicesIn j s = applicableSet (actionsFrom j 0 (8 * ((length (j .actions) + 7) / 8))) s
+
+-- Action i is applicable at a node.
+abbrev pub Applies : Job → Node → ℕ → Type 0
+Applies j m i = applicable (actionOf j i) (m .state) ≡ true
 
 -- ---- what the functions promise
 

@@ -1,19 +1,21 @@
-// The nodes of an accepted job as values, for the search. A node is nine numbers: the state, then the residual of each constraint, and 0 behind the
+// The nodes of an accepted job as values, for the search. A node is nine numbers: the state, then the residual of each constraint, and 0 after the
 // last. The residuals of the hints, which a path carries beside its node, are eight numbers.
 use job::access;
 use task::Action;
 use task::State;
 ghost use mathlib.Core.Path.{_≡_};
-ghost use mathlib.Core.List.{_∷_};
-ghost use Prim.Native.Nat.{_<_};
+ghost use mathlib.Core.List.{_∷_, map};
+ghost use Prim.Native.Nat.{_+_, _≤_, _<_};
 ghost use lib.ListN.{drop};
 ghost use Rattle.model.specs.declared.Verdict.the-variants.{Fine};
+ghost use Rattle.model.specs.job.Job.{actionOf};
 ghost use Rattle.model.specs.job.Layout.{actionCount, constraintCount, hintCount, jobOf};
 ghost use Rattle.model.specs.job.Decoding.{jobVerdict};
 ghost use Rattle.model.specs.search.Node.{someDead};
 ghost use Rattle.model.specs.search.JobSystem.{startNode, nextNode, isGoal, startHints, carryHints};
+ghost use Rattle.task.specs.Meaning.{actionIs};
 ghost use Rattle.progression.specs.Workspace.{Workspace};
-ghost use Rattle.nodes.specs.Meaning.{nodeIs, hintsIs, Acts, Costs, Made, Leads, Carries};
+ghost use Rattle.nodes.specs.Meaning.{nodeIs, hintsIs, actionsFrom, choicesIn, Acts, Costs, Applies, Made, Leads, Carries};
 
 // What an action leads to. Where it leads nowhere, alive is false and the node, clean as any, means nothing.
 pub struct Reached {
@@ -32,6 +34,55 @@ pub fn action_of(job: &[u8], i: u8) -> Action
         del: access::action_del(job, k),
         cost: access::action_cost(job, k),
     }
+}
+
+// Action i, or after the last one an action that does nothing.
+fn action_or_none(job: &[u8], i: u8) -> Action
+    requires { ⌜ jobVerdict (now job) ≡ Fine ⌝ }
+    ensures { λ r. ⌜ actionIs r ≡ actionOf (jobOf (now (job .entry))) i ⌝ }
+{
+    if i < access::action_count(job) {
+        return action_of(job, i);
+    }
+    Action {
+        pre: 0,
+        add: 0,
+        del: 0,
+        cost: 0,
+    }
+}
+
+// Eight actions in order.
+fn eight_from(job: &[u8], first: u8) -> [Action; 8]
+    requires { ⌜ (jobVerdict (now job) ≡ Fine) × (first + 8 ≤ 64) ⌝ }
+    ensures { λ r. ⌜ map actionIs r ≡ actionsFrom (jobOf (now (job .entry))) first 8 ⌝ }
+{
+    [
+        action_or_none(job, first),
+        action_or_none(job, first + 1),
+        action_or_none(job, first + 2),
+        action_or_none(job, first + 3),
+        action_or_none(job, first + 4),
+        action_or_none(job, first + 5),
+        action_or_none(job, first + 6),
+        action_or_none(job, first + 7),
+    ]
+}
+
+// The actions that are applicable at a node: bit i is action i, and bits of no action of the job mean nothing. The last eight are looked up first, so
+// that each next eight are the lowest bits.
+pub fn choices(job: &[u8], node: [u64; 9]) -> u64
+    requires { ⌜ jobVerdict (now job) ≡ Fine ⌝ }
+    ensures { λ r. ⌜ r ≡ choicesIn (jobOf (now (job .entry))) (nodeIs (constraintCount (now (job .entry))) node .state) ⌝ }
+{
+    let facts = node[0];
+    let mut set = 0;
+    let mut left = (access::action_count(job) + 7) / 8;
+    while left > 0 {
+        left -= 1;
+        set = task::applicable_set(eight_from(job, 8 * left), facts) + 256 * set;
+    }
+    set
 }
 
 pub fn cost_of(job: &[u8], i: u8) -> u64
@@ -58,7 +109,7 @@ fn node_of(facts: u64, rs: [u64; 8]) -> [u64; 9]
     ]
 }
 
-// What stands behind the state.
+// What stands after the state.
 fn residuals_of(node: [u64; 9]) -> [u64; 8]
     ensures { λ r. ⌜ r ≡ drop 1 node ⌝ }
 {
@@ -94,21 +145,22 @@ pub fn start(job: &[u8]) -> Reached
     unless_dead(job, facts, progression::constraints_first(job, facts))
 }
 
-// The node that action i leads to. The constraints see the state after the action.
+// The node that action i, which is applicable, leads to. The constraints see the state after the action; where there are none, no residual is copied.
 pub fn next(job: &[u8], work: &mut [u64], node: [u64; 9], i: u8) -> Reached
-    requires { ⌜ (jobVerdict (now job) ≡ Fine) × (i < actionCount (now job)) × Workspace (now job) (now work) ⌝ }
+    requires { ⌜ (jobVerdict (now job) ≡ Fine) × (i < actionCount (now job)) × Applies (jobOf (now job)) (nodeIs (constraintCount (now job)) node) i
+        × Workspace (now job) (now work) ⌝ }
     ensures { λ r. ⌜ Leads (constraintCount (now (job .entry)))
         (nextNode (jobOf (now (job .entry))) (nodeIs (constraintCount (now (job .entry))) node) i) r × Workspace (now (job .entry)) (now (work .exit)) ⌝ }
 {
     let action = action_of(job, i);
     let state = State { facts: node[0] };
-    if !state.applicable(action) {
+    let facts = state.after(action).facts;
+    if access::constraint_count(job) == 0 {
         return Reached {
-            alive: false,
-            node: [0; 9],
+            alive: true,
+            node: [facts, 0, 0, 0, 0, 0, 0, 0, 0],
         };
     }
-    let facts = state.after(action).facts;
     unless_dead(
         job,
         facts,
@@ -147,7 +199,7 @@ pub fn next_hints(job: &[u8], work: &mut [u64], hints: [u64; 8], node: [u64; 9],
     progression::hints_next(job, work, hints, node[0], i)
 }
 
-// Whether no plan through here meets the hints: one of them is dead.
+// Whether a hint residual is dead. It is the conjunction over all arrivals of the least key, so a plan by one of them may still meet the hint.
 pub fn is_cut(job: &[u8], hints: [u64; 8]) -> bool
     requires { ⌜ jobVerdict (now job) ≡ Fine ⌝ }
     ensures { λ r. ⌜ r ≡ someDead (hintsIs (hintCount (now (job .entry))) hints) ⌝ }

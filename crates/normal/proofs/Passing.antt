@@ -30,7 +30,7 @@ inside s at w = go (decLt at (length s))
     go (yes l) = l
     go (no l) = absurd (subst Whole (at-the-end 64 64 s at (omega arith)) w)
 
--- and it ends behind the position where it begins
+-- a formula that was read ends after the position where it begins
 grows : (s : List ℕ) (at : ℕ) → Whole (parsed 64 64 s at) → at < behind (parsed 64 64 s at)
 unfolding Whole behind
 grows s at w = go (parsed 64 64 s at) refl w
@@ -89,7 +89,7 @@ module _ {s : List ℕ} {at : ℕ} {b : Bool} {to size : ℕ} {k : Code} (m : Me
       let n = here k refl (x .0) (x .1) (x .2) in
       omega (arith, ap length (n .text), length-append (heading k (getD s (at + 1) 0) b) (x .0), m .room .1)
 
--- ---- a node that was met, and the position j behind its heading
+-- ---- a node that was met, and the position j after its heading
 pub record Passed (s : List ℕ) (at : ℕ) (b : Bool) (to size : ℕ) (k : Code) (j : ℕ) : Type 0 where
   pub met : Met s at b to size k
   pub moved : j ≡ to + length (heading k (getD s (at + 1) 0) b)

@@ -20,7 +20,7 @@ use Rattle.normal.specs.Writing.{behind, bytesOf, Room, Stored}
 use Rattle.normal.proofs.Passing.{Passed, NodeHere, leaf-node, number-node, one-node, two-node}
 use Rattle.normal.proofs.Passing.{leaf-ends, number-ends, one-asks, one-ends, two-asks, two-asks′, two-ends}
 
--- two runs of stores, one behind the other
+-- two runs of stores, one after the other
 sets-append : (xs ys l : List ℕ) (i : ℕ) → sets (sets l i xs) (i + length xs) ys ≡ sets l i (xs ++ ys)
 sets-append [] ys l i = ap (λ (k : ℕ). sets l k ys) (add-zero i)
 sets-append (x ∷ xs) ys l i =

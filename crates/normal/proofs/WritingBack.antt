@@ -16,12 +16,12 @@ use Rattle.model.specs.logic.Formula.{Formula}
 use Rattle.model.specs.logic.Parts.{size}
 use Rattle.model.specs.logic.Reading.{Parsed, formula, parsed, section}
 use Rattle.model.specs.calls.Search.{writtenOver}
-use Rattle.model.specs.calls.WriteBack.{ruleVerdict, rewritten, into, writtenBack}
+use Rattle.model.specs.calls.WriteBack.{writeEnd, ruleVerdict, rewritten, into, writtenBack}
 use Rattle.model.proofs.logic.ReadingLaws.{section-from, parsed-size, parsed-wider}
+use Rattle.model.proofs.calls.RuleLaws.{rule-fine}
 use Rattle.normal.specs.declared.Ends.{Ends}
-use Rattle.normal.specs.Writing.{Whole, bytesOf, Room, endsOf, writeEnd}
+use Rattle.normal.specs.Writing.{Whole, bytesOf, Room, endsOf}
 use Rattle.normal.proofs.Texts.{text-bound}
-use Rattle.normal.proofs.Verdicts.{rule-fine}
 
 -- ---- bytes into a buffer
 module _ (bytes out : List ℕ) where
@@ -50,9 +50,9 @@ module _ (v a : ℕ) (rule : List ℕ) where
   passes : ruleVerdict v a rule ≡ Fine → (φ : Formula) × (n : ℕ) × (section v a rule ≡ formula φ n) × (p ≡ formula φ n) × (size φ ≤ 128)
   passes e =
       let x = rule-fine v a rule e in
-      let y = section-from v a rule (x .3) (x .4) (x .5) in
-      let z = parsed-wider v a 64 64 rule (x .0) (x .1) 0 (x .3) (x .4) (y .0) in
-      (x .3, x .4, x .5, z, omega (arith, x .2, y .1, parsed-size v a rule 0 (x .3) (x .4) (y .0)))
+      let y = section-from v a rule (x .shape) (x .bytes) (x .reads) in
+      let z = parsed-wider v a 64 64 rule (x .few-facts) (x .few-actions) 0 (x .shape) (x .bytes) (y .0) in
+      (x .shape, x .bytes, x .reads, z, omega (arith, x .few-bytes, y .1, parsed-size v a rule 0 (x .shape) (x .bytes) (y .0)))
 
   -- its normal form has at most 384 bytes
   pub has-room : ruleVerdict v a rule ≡ Fine → Room p true 0 384

@@ -47,12 +47,12 @@ head2 Until false = Single 0x24
 head2 Release true = Single 0x24
 head2 Release false = Single 0x23
 
--- a number behind its code
+-- a number after its code
 abbrev pub headNumber : ℕ → ℕ → Bool → Head
 headNumber c n true = Pair c n
 headNumber c n false = Triple 0x10 c n
 
--- n is the byte behind the code
+-- n is the byte after the code
 abbrev pub headOf : Code → ℕ → Bool → Head
 headOf (Leaf c) n b = head0 c b
 headOf Fact n b = headNumber 0x03 n b

@@ -5,11 +5,9 @@ use mathlib.Core.Bool.{Bool}
 use mathlib.Core.List.{List, []}
 use lib.ListN.{length}
 use lib.Seq.{sets}
-use Rattle.model.specs.declared.Rewritten.{Rewritten}
 use Rattle.model.specs.logic.Formula.{encode}
 use Rattle.model.specs.logic.Reading.{Parsed, formula, wrong}
 use Rattle.model.specs.logic.NormalForm.{nnf}
-use Rattle.model.specs.calls.WriteBack.{WriteEnd}
 use Rattle.normal.specs.declared.Ends.{Ends}
 
 -- a formula was read
@@ -17,7 +15,7 @@ unfoldable pub Whole : Parsed → Type 0
 Whole (formula φ n) = Unit {0}
 Whole (wrong p) = ⊥
 
--- the position behind what was read
+-- the position after what was read
 unfoldable pub behind : Parsed → ℕ
 behind (formula φ n) = n
 behind (wrong p) = p
@@ -39,7 +37,3 @@ endsOf p b to = record { next = behind p; to = to + length (bytesOf p b) }
 -- from a position on, out′ holds the normal form, and is as out elsewhere
 abbrev pub Stored : Parsed → Bool → ℕ → List ℕ → Ends → List ℕ → Type 0
 Stored p b to out r out′ = (r ≡ endsOf p b to) × (out′ ≡ sets out to (bytesOf p b))
-
--- the result of writing back, and what the buffer holds afterwards
-abbrev pub writeEnd : Rewritten → List ℕ → WriteEnd
-writeEnd r out = record { result = r; buffer = out }

@@ -135,7 +135,7 @@ fn head_number(code: u8, n: u8, plain: bool) -> Head
     }
 }
 
-// The heading of a node with a code; `n` is the byte behind the code.
+// The heading of a node with a code; `n` is the byte after the code.
 fn head_of(code: Code, n: u8, plain: bool) -> Head
     ensures { λ r. ⌜ r ≡ headOf code n plain ⌝ }
 {

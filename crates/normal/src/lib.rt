@@ -10,10 +10,10 @@ ghost use mathlib.Core.Path.{_≡_};
 ghost use mathlib.Core.Bool.{true, false};
 ghost use lib.ListN.{length, getD};
 ghost use Rattle.model.specs.logic.Reading.{parsed};
-ghost use Rattle.model.specs.calls.WriteBack.{ruleVerdict, writtenBack};
-ghost use Rattle.normal.specs.Writing.{Room, endsOf, Stored, writeEnd};
+ghost use Rattle.model.specs.calls.WriteBack.{writeEnd, ruleVerdict, writtenBack};
+ghost use Rattle.normal.specs.Writing.{Room, endsOf, Stored};
 
-// The position behind what was read, and the position behind what is written of it.
+// The position after what was read, and the position after what is written of it.
 pub struct Ends {
     pub next: usize,
     pub to: usize,

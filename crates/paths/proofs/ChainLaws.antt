@@ -37,15 +37,9 @@ unfolding slotPath
 length-path ss zero i = refl
 length-path ss (suc n) i = length-append (slotPath ss n (parentAt ss i)) (actionAt ss i ∷ []) ∙ omega (arith, length-path ss n (parentAt ss i))
 
--- Slots with the same parents and actions have the same paths.
-pub path-same : (ss rr : List Slot) → ((i : ℕ) → parentAt ss i ≡ parentAt rr i) → ((i : ℕ) → actionAt ss i ≡ actionAt rr i) → (n i : ℕ) → slotPath ss n i ≡ slotPath rr n i
-unfolding slotPath
-path-same ss rr p a zero i = refl
-path-same ss rr p a (suc n) i = rw (p i, a i, path-same ss rr p a n (parentAt rr i))
-
 -- ---- the order of two sequences with one more action each
 
--- From the same sequence it goes by the actions,
+-- After the same sequence the last actions decide.
 last-same : (p : List ℕ) (a b : ℕ) → earlier (p ++ (a ∷ [])) (p ++ (b ∷ [])) ≡ ltb a b
 last-same p a b = same-truth _ _ (λ h. to ((earlier-snoc p p a b refl) .0 h)) (λ h. (earlier-snoc p p a b refl) .1 (inr (refl, ltb-true a b h)))
   where
@@ -53,7 +47,7 @@ last-same p a b = same-truth _ _ (λ h. to ((earlier-snoc p p a b refl) .0 h)) (
     to (inl h) = absurd (true≢false (sym h ∙ earlier-irrefl p))
     to (inr h) = lt-ltb a b (h .1)
 
--- and from different ones by these.
+-- Different sequences decide before their last actions.
 last-other : (p q : List ℕ) (a b : ℕ) → length p ≡ length q → (p ≡ q → ⊥) → earlier (p ++ (a ∷ [])) (q ++ (b ∷ [])) ≡ earlier p q
 last-other p q a b e d = same-truth _ _ (λ h. to ((earlier-snoc p q a b e) .0 h)) (λ h. (earlier-snoc p q a b e) .1 (inl h))
   where
@@ -100,13 +94,13 @@ module _ (ss : List Slot) (n : ℕ) (ch : Chained ss) (l : length ss ≡ n) wher
       (last-other (slotPath ss k i) (slotPath ss k j) a b (length-path ss k i ∙ sym (length-path ss k j))
       (λ e. v .differ (ch .distinct i j k refl (sym (v .level)) e (omega arith) (omega arith))))
 
-  -- If their parents are one, their actions decide,
+  -- If two slots have one parent, their actions decide.
   pub order-action : (i j a b p q : ℕ) → a ≡ actionAt ss i → b ≡ actionAt ss j → p ≡ parentAt ss i → q ≡ parentAt ss j → p ≡ q → Level ss n i j → ltb a b ≡ order ss i j
   order-action i j a b p q ea eb ep eq d v =
       rw (ea, eb)
       (order-same ss (parentAt ss i) (parentAt ss j) (actionAt ss i) (actionAt ss j) (sym ep ∙ d ∙ eq) ∙ sym (order-last ss i j (parents i j v .0)))
 
-  -- and if not, their parents.
+  -- If two slots have different parents, these decide.
   pub order-up : (i j p q : ℕ) → p ≡ parentAt ss i → q ≡ parentAt ss j → (p ≡ q → ⊥) → Level ss n i j → Instead ss n i j p q
   order-up i j p q ep eq d v =
       let s = parents i j v in
@@ -116,7 +110,7 @@ module _ (ss : List Slot) (n : ℕ) (ch : Chained ss) (l : length ss ≡ n) wher
 
 -- ---- a path written from its end
 
--- Storing the last action leaves one action less to write before what stands behind it.
+-- Storing the last action leaves one action less to write before what stands after it.
 pub write-on : (ss : List Slot) (plan : List ℕ) (i k m a p : ℕ) → k ≡ suc m → a ≡ actionAt ss i → p ≡ parentAt ss i → m < length plan → slotPath ss k i ++ drop k plan ≡ slotPath ss m p ++ drop m (set plan m a)
 unfolding slotPath
 write-on ss plan i k m a p d ea ep h =

@@ -1,33 +1,13 @@
 // The planner's functions for C: bytes in, numbers out. include/dagzhimo.h declares them.
-use model::Searched;
+use model::Rewritten;
 use model::Validated;
 ghost use mathlib.Core.Path.{_≡_};
-ghost use mathlib.Core.List.{[], _∷_};
+ghost use mathlib.Core.List.{_∷_};
+ghost use lib.Dec.{leb};
+ghost use Rattle.model.specs.logic.Formula.{choose};
 ghost use Rattle.model.specs.calls.Validate.{validated};
-ghost use Rattle.planner.specs.Numbers.{numbers, validateNumbers, SearchAnswers};
-
-fn wide(x: u8) -> u64
-    ensures { λ r. ⌜ r ≡ x ⌝ }
-{
-    x as u64
-}
-
-// Walks a step list of a job: 0 with the cost and the hint bits, or the number of a refusal with its place.
-#[no_mangle]
-pub extern "C" fn dagzhimo_validate(job: &[u8], steps: &[u8], out: &mut [u64; 2]) -> u64
-    ensures { λ r. ⌜ numbers r (now (out .exit)) ≡ validateNumbers (validated (now (job .entry)) (now (steps .entry))) ⌝ }
-{
-    match validate::validate(job, steps) {
-        Validated::Passed(cost, bits) => {
-            *out = [cost, wide(bits)];
-            0
-        }
-        Validated::Refused(refusal) => {
-            *out = [refusal.place as u64, 0];
-            wide(refusal.number)
-        }
-    }
-}
+ghost use Rattle.model.specs.calls.WriteBack.{writtenBack};
+ghost use Rattle.model.specs.calls.Numbers.{validateNumbers, SearchAnswers, WriteAnswers};
 
 // Looks for the job's plan: 0 with its cost and its number of steps, or the number of a refusal with its place.
 #[no_mangle]
@@ -38,16 +18,59 @@ pub extern "C" fn dagzhimo_search(
     out: &mut [u64; 2],
 ) -> u64
     ensures { λ r. ⌜ SearchAnswers (now (job .entry)) (now (table .entry)) (now (plan .entry)) (now (table .exit)) (now (plan .exit))
-        (numbers r (now (out .exit))) ⌝ }
+        (r ∷ now (out .exit)) ⌝ }
 {
-    match search::search(job, table, plan) {
-        Searched::Planned(cost, n) => {
-            *out = [cost, n as u64];
+    let told = search::numbers(search::search(job, table, plan));
+    *out = [told[1], told[2]];
+    told[0]
+}
+
+// Walks a step list of a job: 0 with the cost and the hint bits, or the number of a refusal with its place.
+#[no_mangle]
+pub extern "C" fn dagzhimo_validate(job: &[u8], steps: &[u8], out: &mut [u64; 2]) -> u64
+    ensures { λ r. ⌜ r ∷ now (out .exit) ≡ validateNumbers (validated (now (job .entry)) (now (steps .entry))) ⌝ }
+{
+    match validate::validate(job, steps) {
+        Validated::Passed(cost, bits) => {
+            *out = [cost, words::wide(bits)];
             0
         }
-        Searched::Refused(refusal) => {
+        Validated::Refused(refusal) => {
             *out = [refusal.place as u64, 0];
-            wide(refusal.number)
+            words::wide(refusal.number)
+        }
+    }
+}
+
+// A count as a byte. All counts over 64 are out of range, so one of them may stand for the others.
+fn count(x: u64) -> u8
+    ensures { λ r. ⌜ r ≡ choose (leb x 64) x 65 ⌝ }
+{
+    if x > 64 {
+        return 65;
+    }
+    x as u8
+}
+
+// Writes a rule back: 0 with the number of bytes written, or the number of a refusal with its place.
+#[no_mangle]
+pub extern "C" fn dagzhimo_write_back(
+    facts: u64,
+    steps: u64,
+    rule: &[u8],
+    buffer: &mut [u8],
+    out: &mut [u64; 2],
+) -> u64
+    ensures { λ r. ⌜ WriteAnswers (writtenBack facts steps (now (rule .entry)) (now (buffer .entry))) (now (buffer .exit)) (r ∷ now (out .exit)) ⌝ }
+{
+    match normal::write_back(count(facts), count(steps), rule, buffer) {
+        Rewritten::Written(n) => {
+            *out = [n as u64, 0];
+            0
+        }
+        Rewritten::Refused(refusal) => {
+            *out = [refusal.place as u64, 0];
+            words::wide(refusal.number)
         }
     }
 }

@@ -28,7 +28,7 @@ pub getD-padded : (l : List ℕ) (i : ℕ) → i < length l → getD (padded l) 
 unfolding padded
 getD-padded l i h = List·getD-append l _ 0 i h
 
--- The entry behind the last is stored.
+-- The entry after the last is stored.
 pub set-padded : (l : List ℕ) (n x : ℕ) → length l ≡ n → n < 8 → set (padded l) n x ≡ padded (l ++ (x ∷ []))
 unfolding padded
 set-padded l n x e h =
@@ -59,7 +59,7 @@ row-meetAll (suc n) [] b p q = absurd (omega arith)
 row-meetAll (suc n) (x ∷ a) [] p q = absurd (omega arith)
 row-meetAll (suc n) (x ∷ a) (y ∷ b) p q = ap (λ (l : List ℕ). bitAnd x y ∷ l) (row-meetAll n a b (omega arith) (omega arith))
 
--- Entries behind the last formula stay 0.
+-- Entries after the last formula stay 0.
 meetAll-zeros : (n : ℕ) → meetAll (replicate n 0) (replicate n 0) ≡ replicate n 0
 unfolding meetAll
 meetAll-zeros zero = refl

@@ -20,7 +20,7 @@ use Rattle.model.proofs.job.ResidualLists.{length-residuals, length-progressedA
 use Rattle.progression.specs.Padded.{padded, formulasFrom}
 use Rattle.progression.proofs.Padding.{set-padded, padded-none}
 
--- ---- one formula more behind others
+-- ---- one formula more after others
 
 module _ (φ : Formula) (w : World) where
   residuals-snoc : (φs : List Formula) → residuals (φs ++ (φ ∷ [])) w ≡ residuals φs w ++ (residual 6 φ w ∷ [])

@@ -1,5 +1,5 @@
 // The residuals of an accepted job's formulas, progressed together: those of the constraints in one array, those of the hints in another.
-// Formula i stands in section 1 + i, constraints first; entries behind the last formula are 0.
+// Formula i stands in section 1 + i, constraints first; entries after the last formula are 0.
 use job::access;
 ghost use mathlib.Core.Path.{_≡_};
 ghost use mathlib.Core.Option.{none, some};

@@ -1,51 +1,45 @@
 // Prints what a call gave, as document 01 words it: `plan 3 16` and one step number a line, or `refused 12 0`.
 use libc::STDOUT_FILENO;
-use model::Refusal;
 use model::Rewritten;
-use model::Searched;
 use model::Validated;
-
-fn wide(x: u8) -> u64 {
-    x as u64
-}
 
 fn text(s: &[u8]) {
     io::write_all(STDOUT_FILENO, s);
 }
 
-// A number, and what stands behind it.
+// A number, and the byte after it.
 fn number(n: u64, end: u8) {
     io::print_decimal(STDOUT_FILENO, n);
-    let behind = [end];
-    io::write_all(STDOUT_FILENO, &behind);
+    let after = [end];
+    io::write_all(STDOUT_FILENO, &after);
 }
 
-// The first n steps of a plan, one a line.
-fn steps(plan: &[u8], n: usize) {
+// The steps of a plan, one a line.
+fn steps(plan: &[u8]) {
     let mut i = 0;
-    while i < n && i < plan.len() {
-        number(wide(plan[i]), b'\n');
+    while i < plan.len() {
+        number(words::wide(plan[i]), b'\n');
         i += 1;
     }
 }
 
-pub fn refused(r: Refusal) {
+// A refusal's number and place.
+fn refused(n: u64, place: u64) {
     text(b"refused ");
-    number(wide(r.number), b' ');
-    number(r.place as u64, b'\n');
+    number(n, b' ');
+    number(place, b'\n');
 }
 
-// What a search gave, with the plan buffer as it is afterwards.
-pub fn searched(end: Searched, plan: &[u8]) {
-    match end {
-        Searched::Planned(cost, n) => {
-            text(b"plan ");
-            number(n as u64, b' ');
-            number(cost, b'\n');
-            steps(plan, n);
-        }
-        Searched::Refused(r) => refused(r),
+// What a search gave: its three numbers, and the part of the plan buffer that holds the steps.
+pub fn planned(told: [u64; 3], part: &[u8]) {
+    if told[0] != 0 {
+        refused(told[0], told[1]);
+        return;
     }
+    text(b"plan ");
+    number(told[2], b' ');
+    number(told[1], b'\n');
+    steps(part);
 }
 
 // What a read-through gave: `passed 16 1`, the cost and the hint bits, or a refusal.
@@ -54,16 +48,16 @@ pub fn validated(end: Validated) {
         Validated::Passed(cost, bits) => {
             text(b"passed ");
             number(cost, b' ');
-            number(wide(bits), b'\n');
+            number(words::wide(bits), b'\n');
         }
-        Validated::Refused(r) => refused(r),
+        Validated::Refused(r) => refused(words::wide(r.number), r.place as u64),
     }
 }
 
 // A space and a byte in hexadecimal.
 fn byte(x: u8) {
     text(b" ");
-    io::print_hex(STDOUT_FILENO, wide(x), 2);
+    io::print_hex(STDOUT_FILENO, words::wide(x), 2);
 }
 
 // The first n bytes of a buffer.
@@ -84,6 +78,6 @@ pub fn rewritten(end: Rewritten, buffer: &[u8]) {
             bytes(buffer, n);
             text(b"\n");
         }
-        Rewritten::Refused(r) => refused(r),
+        Rewritten::Refused(r) => refused(words::wide(r.number), r.place as u64),
     }
 }

@@ -75,7 +75,7 @@ module _ (closing : Bool) (w : World) where
   unfolding everywhere tableOf
   table-everywhere b φ n e = ofBits-cong 64 _ _ (λ k h. e (bit k))
 
-  -- and so a constant, a fact and an action
+  -- the tables of a constant, a fact and an action are constant
   pub table-constant : (c : Constant) (n : ℕ) → everywhere 6 (truth0 closing c) ≡ tableOf closing w (constant c) n
   table-constant c n = table-everywhere _ (constant c) n (truth-constant c n)
 
@@ -122,7 +122,7 @@ module _ (closing : Bool) (w : World) where
 
   -- ---- two operands
 
-  -- the second operand's numbers start behind the first one's
+  -- the second operand's numbers start after the first one's
   truth-two : (o : Binary) (φ ψ : Formula) (n : ℕ) (s : ℕ → Bool)
       → (let m = after (temporal2 o) n in
       truth2 o (truth closing w φ m s) (truth closing w ψ (m + count φ) s) (ahead closing (ofNothing2 o) (s n)))

@@ -22,7 +22,7 @@ use Rattle.model.proofs.logic.ReadingLaws.{at-the-end}
 use Rattle.formula.specs.Extent.{carries, isNext}
 use Rattle.residual.specs.Walk.{starts, after, behind, Few}
 
--- ---- the numbers rise: at a formula's own, inside it, and behind it
+-- ---- the numbers rise: at a formula's own, inside it, and after it
 pub starts-le : (under carried : Bool) (n : ℕ) → n ≤ starts under carried n
 starts-le false carried n = omega arith
 starts-le true true n = omega arith
@@ -70,7 +70,7 @@ next-count : (b : Bool) (n x : ℕ) → choose b (n + x) (suc n + x) ≡ n + (el
 next-count true n x = refl
 next-count false n x = omega arith
 
--- the numbers behind a formula start its count of parts further on
+-- the numbers after a formula start its count of parts further on
 pub behind-count : (φ : Formula) (n : ℕ) → behind φ false n ≡ n + count φ
 unfolding behind count
 behind-count (constant c) n = sym (add-zero n)
@@ -156,6 +156,6 @@ part-below true false i h e = omega arith
 part-below false true i h e = omega arith
 part-below false false i h e = let z : _≡_ {A = ℕ} 0 1 = cc in omega arith
 
--- and so have those from its start on
+-- the numbers from the start of a formula on are among the six, if those inside are
 pub first-le : (under carried : Bool) (i : ℕ) → after carried (starts under carried i) ≤ 6 → i ≤ 6
 first-le under carried i h = omega (arith, starts-le under carried i, after-le carried (starts under carried i))

@@ -68,7 +68,7 @@ module _ (closing : Bool) (w : World) where
   filled-under (binary Until φ ψ) n t = refl
   filled-under (binary Release φ ψ) n t = refl
 
-  -- and so it is among the parts of a next
+  -- the operand of a next is among the parts, if it is not among them anyway
   stored-next : (b : Bool) (p : Part) (t : List ℕ) (n : ℕ) (xs ys : List Part) {x y : List ℕ} → y ≡ stored t n ys → x ≡ stored t (suc n) xs
       → choose b y (set x n (tableAt p)) ≡ stored t n (elim b [ true ↦ ys | false ↦ p ∷ xs ])
   unfolding stored
@@ -131,7 +131,7 @@ module _ (closing : Bool) (w : World) where
     abbrev truthAt : Part → Bool
     truthAt p = truth closing w (p .shape) (p .first) (bit k)
 
-    -- at the setting k the entries from n on are the parts' truths, and false behind the last
+    -- at the setting k the entries from n on are the parts' truths, and false after the last
     stored-bits : (ps : List Part) (t : List ℕ) (n : ℕ) → n + length ps ≤ length t → ((j : ℕ) → n ≤ j → getD t j 0 ≡ 0)
         → (i : ℕ) → bit (getD (stored t n ps) (n + i) 0) k ≡ bit (bitsOf truthAt ps) i
     unfolding stored bitsOf

@@ -73,7 +73,7 @@ zeros-at (suc n) (suc i) = zeros-at n i
 abbrev AllFrom : List ℕ → Type 0
 AllFrom t = (i : ℕ) → From i (getD t i 0)
 
--- so it is with the tables that a part's table is put in
+-- AllFrom stays true where a part's table is put in its place
 put-every : (part : Bool) (n x : ℕ) (t : List ℕ) → From n x → AllFrom t → AllFrom (put part n x t)
 put-every true n x t p h = set-every From t n x p h
 put-every false n x t p h = h

@@ -21,7 +21,7 @@ use Rattle.residual.proofs.Nodes.{table-constant, table-fact, table-act
 use Rattle.residual.proofs.Numbers.{behind-count, one-few, two-few}
 
 module _ (closing : Bool) (w : World) where
-  -- a formula ends behind its first byte
+  -- a formula ends after its first byte
   pub walk-grows : (v a : ℕ) (s : List ℕ) (at : ℕ) (under : Bool) (i : ℕ) → Few (parsed v a s at) under i
       → (p : Value) → p ≡ evaluated closing w (parsed v a s at) under i → at < p .next
   unfolding evaluated

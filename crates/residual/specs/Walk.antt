@@ -15,13 +15,13 @@ use Rattle.formula.specs.Extent.{isNext}
 use Rattle.residual.specs.declared.Value.{Value}
 use Rattle.residual.specs.Node.{ofNothing1, ofNothing2, tableOf, aheadTable, table1, table2}
 
--- where a formula's own numbers start: behind it, if it is a part only as the operand of a next
+-- where a formula's own numbers start: after it, if it is a part only as the operand of a next
 abbrev pub starts : Bool → Bool → ℕ → ℕ
 starts false carried n = n
 starts true true n = n
 starts true false n = suc n
 
--- the number behind a formula's own
+-- the number after a formula's own
 abbrev pub after : Bool → ℕ → ℕ
 after true n = suc n
 after false n = n
@@ -30,7 +30,7 @@ abbrev pub put : Bool → ℕ → ℕ → List ℕ → List ℕ
 put true n x t = set t n x
 put false n x t = t
 
--- the number of the first part behind a formula
+-- the number of the first part after a formula
 unfoldable pub behind : Formula → Bool → ℕ → ℕ
 behind (constant c) under n = starts under false n
 behind (fact i) under n = starts under false n
@@ -38,7 +38,7 @@ behind (action a) under n = starts under false n
 behind (unary o φ) under n = behind φ (isNext o) (after (temporal1 o) (starts under (temporal1 o) n))
 behind (binary o φ ψ) under n = behind ψ false (behind φ false (after (temporal2 o) (starts under (temporal2 o) n)))
 
--- the tables behind a formula, where t are those before it: each part's table is put in its place
+-- the tables after a formula, where t are those before it: each part's table is put in its place
 module _ (closing : Bool) (w : World) where
   unfoldable pub filled : Formula → Bool → ℕ → List ℕ → List ℕ
   unfolding behind tableOf

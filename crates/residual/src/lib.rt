@@ -19,7 +19,7 @@ struct Moment {
     closing: bool,
 }
 
-// What a formula comes to: its truth table, the position behind it, and the number of the first carried part behind it.
+// What a formula comes to: its truth table, the position after it, and the number of the first carried part after it.
 struct Value {
     table: u64,
     next: usize,

@@ -30,7 +30,7 @@ use Rattle.search.proofs.GoalLaws.{due-none, due-more, due-key, due-beh
 
 -- ---- the goals of a key, one slot more in front
 
--- the first path of one more goal, if it is one, and of those behind it
+-- the first path of one more goal, if it is one, and of those after it
 abbrev oneMore : List ℕ → Bool → Option (List ℕ) → Option (List ℕ)
 oneMore p false o = o
 oneMore p true none = some p
@@ -99,7 +99,7 @@ module _ (job : List ℕ) (n : ℕ) (t : List ℕ) (room : n * 160 ≤ length t)
   size : length ss ≡ n
   size = length-first t n room
 
-  -- Slot i, due or not, is one more in front of those behind it.
+  -- Slot i, due or not, is one more in front of those after it.
   goals-on : (i : ℕ) → i < n → Behind ss (suc i) c s (From (suc i)) → Goals (suc i) ≡ pathFound ss s (From (suc i)) → Goals i ≡ pathFound ss s (From i)
   goals-on i l h ih =
       let x = slotAt t i in

@@ -14,7 +14,7 @@ use Rattle.model.specs.declared.Searched.{Searched}
 use Rattle.model.specs.declared.Searched.the-variants.{Planned, Refused}
 use Rattle.model.specs.Verdict.{refusal}
 use Rattle.model.specs.calls.Search as calls
-use Rattle.model.specs.calls.Search.{slotsIn, cleared, writtenOver, ruled, tooSmall, SearchGives}
+use Rattle.model.specs.calls.Search.{searchEnd, slotsIn, cleared, writtenOver, ruled, tooSmall, SearchGives}
 use Rattle.model.specs.exploration.Equations.{no-plan}
 use Rattle.model.specs.exploration.Explore.{reached, solve}
 use Rattle.model.specs.job.Layout.{jobOf}
@@ -28,7 +28,7 @@ use Rattle.held.specs.Held.{sys}
 use Rattle.held.proofs.JobLaws.{sys-laws, sys-finite}
 use Rattle.search.specs.declared.Ended.the-variants.{Goal}
 use Rattle.search.specs.Outcome.{EndsAs}
-use Rattle.search.specs.Given.{searchEnd, endOf, HandsOver}
+use Rattle.search.specs.Given.{endOf, HandsOver}
 
 -- ---- a path handed over
 

@@ -31,12 +31,12 @@ use Rattle.search.specs.GoalSlots.{due, chosen, firstDue, Behind}
 -- ---- whether a slot is due, test by test
 
 module _ (job : List ℕ) (c s : ℕ) (x : Slot) where
-  -- It has another cost,
+  -- A slot of another cost is not due.
   pub other-cost : (v : ℕ) → v ≡ x .cost → (v ≡ c → ⊥) → false ≡ due job c s x
   unfolding due sameKey
   other-cost v e n = rw (ne-eqb (x .cost) c (λ q. n (e ∙ q)), sameKey)
 
-  -- or another number of steps,
+  -- A slot of another number of steps is not due.
   pub other-steps : (v : ℕ) → v ≡ x .steps → (v ≡ s → ⊥) → false ≡ due job c s x
   unfolding due sameKey
   other-steps v e n = go (eqb (x .cost) c)
@@ -45,7 +45,7 @@ module _ (job : List ℕ) (c s : ℕ) (x : Slot) where
       go true = rw (ne-eqb (x .steps) s (λ q. n (e ∙ q)))
       go false = refl
 
-  -- or, as it was loaded, is cut;
+  -- A slot of that cost and number of steps is loaded and looked at: it is not due if it is cut.
   module _ (v w : ℕ) (ev : v ≡ x .cost) (ew : w ≡ x .steps) (ec : v ≡ c) (es : w ≡ s) (z : Slot) (loaded : z ≡ x) (d : Bool) (cut : d ≡ someDead (hintsIs (hintCount job) (z .hints))) where
     is-cut : someDead (hintsIs (hintCount job) (x .hints)) ≡ d
     is-cut = sym (cut ∙ ap (λ (y : Slot). someDead (hintsIs (hintCount job) (y .hints))) loaded)
@@ -54,7 +54,7 @@ module _ (job : List ℕ) (c s : ℕ) (x : Slot) where
     unfolding due sameKey
     not-due e = rw (eq-eqb (x .cost) c (sym ev ∙ ec), sameKey, eq-eqb (x .steps) s (sym ew ∙ es), is-cut ∙ e)
 
-    -- or else it is, if it is a goal.
+    -- A slot that is not cut is due if it is a goal.
     pub is-due : d ≡ false → z .goal ≡ due job c s x
     unfolding due sameKey
     is-due e = ap (λ (y : Slot). y .goal) loaded ∙ rw (eq-eqb (x .cost) c (sym ev ∙ ec), sameKey, eq-eqb (x .steps) s (sym ew ∙ es), is-cut ∙ e) refl
@@ -66,13 +66,13 @@ module _ (job : List ℕ) (c s : ℕ) (x : Slot) where
       let e : keyOf (x .cost) (x .steps) ≡ keyOf c s = same-key _ _ (and-both _ _ .0 (and-both _ _ .0 h .0) .0) in
       (ap (λ (k : Key). k .cost) e, ap (λ (k : Key). k .steps) e)
 
--- ---- the choice between slot i and what was found behind it; the test is y
+-- ---- the choice between slot i and what was found after it; the test is y
 
 module _ (job t : List ℕ) (n c s i : ℕ) (f : Found) (y : Bool) (tested : y ≡ due job c s (slotAt t i)) where
   abbrev Chosen : Found
   Chosen = chosen (held t n) (due job c s (slotAt t i)) i f
 
-  -- Slot i is not due,
+  -- Where slot i is not due, the choice is what was found.
   pub chosen-not : not y ≡ true → f ≡ Chosen
   unfolding chosen
   chosen-not h = go f
@@ -84,22 +84,22 @@ module _ (job t : List ℕ) (n c s i : ℕ) (f : Found) (y : Bool) (tested : y �
       go Nothing = rw e
       go (At b) = rw e
 
-  -- or it is: alone,
+  -- Where slot i alone is due, it is the choice.
   pub chosen-only : not y ≡ false → f ≡ Nothing → At i ≡ Chosen
   unfolding chosen
   chosen-only h q = rw (q, sym tested ∙ not-false y h)
 
-  -- behind the other by their paths' order o,
+  -- Where the other's path comes first by their order o, the other is the choice.
   pub chosen-behind : (b : ℕ) (o : Bool) → o ≡ order (held t n) b i → not y ≡ false → f ≡ At b → o ≡ true → At b ≡ Chosen
   unfolding chosen
   chosen-behind b o p h q e = rw (q, sym tested ∙ not-false y h, ← p, e)
 
-  -- or before it.
+  -- Where the path of slot i comes first, it is the choice.
   pub chosen-here : (b : ℕ) (o : Bool) → o ≡ order (held t n) b i → not y ≡ false → f ≡ At b → o ≡ false → At i ≡ Chosen
   unfolding chosen
   chosen-here b o p h q e = rw (q, sym tested ∙ not-false y h, ← p, e)
 
--- What was found behind slot i, which is due, can be compared with it.
+-- What was found after slot i, which is due, can be compared with it.
 pub comparable : (job t : List ℕ) (n i b c s : ℕ) (f : Found) (y : Bool) → y ≡ due job c s (slotAt t i) → not y ≡ false → f ≡ At b → Behind (held t n) (i + 1) c s f
     → n * 160 ≤ length t → i < n → Level (held t n) n b i
 comparable job t n i b c s f y tested h e behind room g =
@@ -114,7 +114,7 @@ module _ (job : List ℕ) (c s : ℕ) (ss : List Slot) where
   abbrev From : ℕ → Found
   From i = firstDue job c s ss (drop i ss) i
 
-  -- Behind the last there is none, and slot i is chosen against those behind it.
+  -- After the last there is none, and slot i is chosen against those after it.
   pub due-none : (i : ℕ) → length ss ≤ i → Nothing ≡ From i
   unfolding firstDue
   due-none i g = rw (drop-of-length-le ss g)
@@ -127,7 +127,7 @@ module _ (job : List ℕ) (c s : ℕ) (ss : List Slot) where
   pub due-turn : (i k : ℕ) (x : Slot) (f r : Found) → f ≡ From k → r ≡ chosen ss (due job c s x) i f → k ≡ suc i → getD ss i noSlot ≡ x → i < length ss → r ≡ From i
   due-turn i k x f r e q d g h = q ∙ rw (e, d, ← g) (sym (due-more i h))
 
-  -- What is chosen is slot i or was found behind it.
+  -- What is chosen is slot i or was found after it.
   chosen-from : (i : ℕ) (x : Slot) → getD ss i noSlot ≡ x → (f : Found) → Behind ss (suc i) c s f → i < length ss → Behind ss i c s (chosen ss (due job c s x) i f)
   unfolding chosen
   chosen-from i x g f h l = go (due job c s x) refl f h
@@ -159,20 +159,20 @@ module _ (job : List ℕ) (ss : List Slot) (i : ℕ) where
   CutIn xs = someCutIn (sys job) (map (heldIs job) xs)
 
   module _ (x : Slot) (d : Bool) (rest : CutIn ss ≡ CutIn (drop i ss)) (at : getD ss i noSlot ≡ x) (cut : d ≡ sys job .cut (heldIs job x .hints)) (inside : i < length ss) where
-    -- Slot i is the next one looked at:
+    -- Slot i is cut, or one after it, exactly if any is.
     front : CutIn ss ≡ d || CutIn (drop (suc i) ss)
     unfolding someCutIn
     front = rest ∙ rw (drop-cons ss i noSlot inside, at) (ap (λ (b : Bool). b || CutIn (drop (suc i) ss)) (sym cut))
 
-    -- it is cut,
+    -- If slot i is cut, one of all is.
     pub cut-here : d ≡ true → true ≡ CutIn ss
     cut-here e = sym (front ∙ rw e refl)
 
-    -- or those behind it decide;
+    -- If slot i is not cut, those after it decide.
     pub cut-on : d ≡ false → CutIn ss ≡ CutIn (drop (i + 1) ss)
     cut-on e = front ∙ rw (e, add-one i) refl
 
-  -- and behind the last there is none.
+  -- After the last slot there is none that is cut.
   pub cut-end : CutIn ss ≡ CutIn (drop i ss) → length ss ≤ i → false ≡ CutIn ss
   unfolding someCutIn
   cut-end r g = sym (r ∙ rw (drop-of-length-le ss g))

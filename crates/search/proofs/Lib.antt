@@ -3,5 +3,4 @@ pub mod FirstGoal
 pub mod TurnLaws
 pub mod StartLaws
 pub mod GivenLaws
-pub mod Ways
-pub mod Demand
+pub mod PartLaws

@@ -66,15 +66,15 @@ begun-idle {job} {places} {u} {node} fine starts b room most l =
 -- ---- the whole search, by what the start is
 
 module _ (S : System) (places : ℕ) where
-  -- It is not reached: 12;
+  -- Where the start is not reached, the answer is 12.
   pub search-none : S .start ≡ none → searchIn S places ≡ answered (no-plan 12)
   search-none e = by-start S places e
 
-  -- there is no slot for it;
+  -- Where there is no slot for the start, the table is too small.
   pub search-small : {m : S .Node} → S .start ≡ some m → places ≡ 0 → searchIn S places ≡ too-small
   search-small e z = by-start S places e ∙ rw (le-ltb 0 places (omega arith)) refl
 
-  -- or the turns begin.
+  -- Where there is a slot for the start, the turns begin.
   pub search-turns : {m : S .Node} → S .start ≡ some m → 0 < places → searchIn S places ≡ turns S places (suc places) (startTable S m)
   search-turns e l = by-start S places e ∙ rw (lt-ltb 0 places l) refl
 

@@ -52,24 +52,24 @@ module _ (S : System) (t : Table S) (b : Bool) (e : b ≡ someCutIn S t) where
   exhausted-uncut h = rw (sym e ∙ h, exhausted)
 
 module _ (S : System) (places : ℕ) (t : Table S) (k : ℕ) where
-  -- A turn ends where nothing is open,
+  -- A turn ends the search where nothing is open.
   turn-none : leastOpen S t 0 ≡ none → turns S places (suc k) t ≡ answered (exhausted S t)
   unfolding turns
   turn-none e = rw (e, turns)
 
   module _ {o : Open} (e : leastOpen S t 0 ≡ some o) where
-    -- and where a goal has the least key;
+    -- A turn ends the search where a goal has the least key.
     turn-goal : {p : List ℕ} → firstGoal S t (o .key) t 0 ≡ some p → turns S places (suc k) t ≡ answered (plan (o .key .cost) p)
     unfolding turns
     turn-goal f = rw (e, turns, f)
 
     module _ (f : firstGoal S t (o .key) t 0 ≡ none) {r : Held S} (h : Holds t (o .slot) r) where
-      -- it goes on behind a slot that is cut,
+      -- The search goes on after a slot that is cut.
       turn-cut-on : S .cut (r .hints) ≡ true → turns S places (suc k) t ≡ turns S places k (mark S t (o .slot))
       unfolding turns
       turn-cut-on c = rw (e, turns, f, h, c)
 
-      -- and behind one that was expanded, unless the table is full.
+      -- The search goes on after a slot that was expanded, unless the table is full.
       turn-on : S .cut (r .hints) ≡ false → {u : Table S} → expand S places (mark S t (o .slot)) r (o .slot) (S .actions) ≡ goes-on u
           → turns S places (suc k) t ≡ turns S places k u
       unfolding turns
@@ -104,18 +104,18 @@ module _ (job : List ℕ) (places n : ℕ) (t : List ℕ) where
   pub turn-idle : (u : List ℕ) (r : Turn) (m : ℕ) → Turned job places n t u r → r ≡ On m → Idle job places m u
   turn-idle u r m h g = subst (Turned job places n t u) g h .0
 
-  -- With k turns left the search comes to res. A turn leaves one less,
+  -- With k turns left the search comes to res; after a turn that goes on it does with one turn less.
   module _ (k l : ℕ) {res : Result} (rest : turns (sys job) places k (heldIn job n t) ≡ res) where
     pub turn-again : (u : List ℕ) (r : Turn) (m : ℕ) → Turned job places n t u r → r ≡ On m → k ≡ suc l → turns (sys job) places l (heldIn job m u) ≡ res
     turn-again u r m h g e =
         sym (subst (Turned job places n t u) g h .1 l) ∙ ap (λ (x : ℕ). turns (sys job) places x (heldIn job n t)) (sym e) ∙ rest
 
-    -- or ends the search;
+    -- A turn that ends the search ends it as res.
     pub turn-ends : (u : List ℕ) (r : Turn) (e : Ended) → Turned job places n t u r → r ≡ End e → k ≡ suc l → EndsAs u e res
     turn-ends u r e h g d =
         subst (EndsAs u e) (ap (λ (x : ℕ). turns (sys job) places x (heldIn job n t)) (sym d) ∙ rest) (subst (Turned job places n t u) g h l)
 
-    -- and where none is left, the table is full.
+    -- Where no turn is left, the table is full.
     pub turns-over : k ≡ 0 → EndsAs t ended.Full res
     unfolding turns
     turns-over d = sym (ap (λ (x : ℕ). turns (sys job) places x (heldIn job n t)) (sym d) ∙ rest)
@@ -167,7 +167,7 @@ module _ {job : List ℕ} {places n : ℕ} {t : List ℕ} {i : ℕ} (taking : Ta
       let x = taking .idle .1 in
       record { accepted = x .accepted; starts = x .starts; room = omega (arith, x .room); most = x .most; used = x .used; sound = mark-sound job t u i marked n inside room (x .sound) }
 
-  -- It is cut, and the search goes on;
+  -- After a slot that is cut the search goes on.
   pub cut-on : sys job .cut (r .hints) ≡ true → Turned job places n t u (On n)
   cut-on c =
       let ready = turn-cut (sys job) places (taking .idle .2) (taking .chosen .least) slot (taking .noGoal) c .0 in (
@@ -175,7 +175,7 @@ module _ {job : List ℕ} {places n : ℕ} {t : List ℕ} {i : ℕ} (taking : Ta
         λ k. turn-cut-on (sys job) places T k (taking .chosen .least) (taking .noGoal) slot c ∙ ap (turns (sys job) places k) (sym same),
       )
 
-  -- or its expansion begins.
+  -- A slot that is not cut is expanded.
   module _ (c : sys job .cut (r .hints) ≡ false) where
     expanding : Expanding (sys job) (taking .idle .0) (heldIn job n u) i (take-it (sys job) r) 0
     expanding = subst (λ (v : Table (sys job)). Expanding (sys job) (taking .idle .0) v i (take-it (sys job) r) 0) (sym same) (turn-uncut (sys job) places (taking .idle .2) (taking .chosen .least) slot (taking .noGoal) c .0)

@@ -21,7 +21,7 @@ unfoldable pub due : List ℕ → ℕ → ℕ → Slot → Bool
 unfolding sameKey someDead hintsIs
 due job c s x = sameKey (keyOf (x .cost) (x .steps)) (keyOf c s) && not (someDead (hintsIs (hintCount job) (x .hints))) && x .goal
 
--- of slot i, if it is due, and the slot found behind it, the one whose path comes first
+-- of slot i, if it is due, and the slot found after it, the one whose path comes first
 unfoldable pub chosen : List Slot → Bool → ℕ → Found → Found
 chosen ss d i Nothing = choose d (At i) Nothing
 chosen ss d i (At b) = choose d (choose (order ss b i) (At b) (At i)) (At b)

@@ -31,9 +31,10 @@ fn is_due(job: &[u8], t: &[u8], i: usize, cost: u64, steps: u64) -> bool
     slot.goal
 }
 
-// Of the slot i, if it is due, and the one found behind it, the one whose path comes first.
+// Of the slot i, if it is due, and the one found after it, the one whose path comes first.
 fn choose(job: &[u8], t: &[u8], n: usize, found: Found, i: usize, cost: u64, steps: u64) -> Found
-    requires { ⌜ (jobVerdict (now job) ≡ Fine) × (n * 160 ≤ length (now t)) × (i < n) × Chained (held (now t) n) × Behind (held (now t) n) (i + 1) cost steps found ⌝ }
+    requires { ⌜ (jobVerdict (now job) ≡ Fine) × (n * 160 ≤ length (now t)) × (i < n) × Chained (held (now t) n)
+        × Behind (held (now t) n) (i + 1) cost steps found ⌝ }
     ensures { λ r. ⌜ r ≡ chosen (held (now (t .entry)) n) (due (now (job .entry)) cost steps (slotAt (now (t .entry)) i)) i found ⌝ }
 {
     if !is_due(job, t, i, cost, steps) {

@@ -8,8 +8,8 @@ use model::Searched;
 use model::Verdict;
 use table::slots;
 ghost use mathlib.Core.Path.{_≡_};
-ghost use Rattle.model.specs.calls.Search.{SearchGives};
-ghost use Rattle.search.specs.Given.{searchEnd, PartGiven};
+ghost use Rattle.model.specs.calls.Search.{searchEnd, SearchGives};
+ghost use Rattle.model.specs.calls.Numbers.{searchNumbers, PartGiven};
 
 // What a search in a table comes to: the slot of the answer and how many slots are in use; the number of a refusal, 11 or 12; or that the
 // table is full.
@@ -40,10 +40,27 @@ pub fn search(job: &[u8], table: &mut [u8], plan: &mut [u8]) -> Searched
     }
 }
 
-// The same search. The front part of the plan buffer that holds the steps is handed back, empty on a refusal.
-pub fn planned<'a>(job: &[u8], table: &mut [u8], plan: &'a mut [u8]) -> &'a mut [u8]
-    ensures { λ r. ⌜ PartGiven (now (job .entry)) (now (table .entry)) (now (plan .entry)) (now r) (now (table .exit)) × (r .ptr ≡ plan .entry .ptr) ⌝ }
+// The result of a search as three numbers: 0, the cost and the number of steps, or a refusal's number, its place and 0.
+pub fn numbers(end: Searched) -> [u64; 3]
+    ensures { λ r. ⌜ r ≡ searchNumbers end ⌝ }
 {
-    let n = result::steps_of(search(job, table, plan));
-    &mut plan[..n]
+    match end {
+        Searched::Planned(cost, steps) => [0, cost, steps as u64],
+        Searched::Refused(refusal) => [words::wide(refusal.number), refusal.place as u64, 0],
+    }
+}
+
+// The same search, with its result as three numbers. The front part of the plan buffer that holds the steps is handed back, empty on a refusal.
+pub fn planned<'a>(
+    job: &[u8],
+    table: &mut [u8],
+    plan: &'a mut [u8],
+    out: &mut [u64; 3],
+) -> &'a mut [u8]
+    ensures { λ r. ⌜ PartGiven (now (job .entry)) (now (table .entry)) (now (plan .entry)) (now (table .exit)) (now r) (now (out .exit))
+        × (r .ptr ≡ plan .entry .ptr) ⌝ }
+{
+    let told = numbers(search(job, table, plan));
+    *out = told;
+    &mut plan[..told[2] as usize]
 }

@@ -8,18 +8,19 @@ ghost use mathlib.Core.Path.{_≡_};
 ghost use Prim.Native.Nat.{_*_, _≤_, _<_};
 ghost use lib.ListN.{length};
 ghost use Rattle.model.specs.declared.Verdict.the-variants.{Fine};
-ghost use Rattle.model.specs.calls.Search.{slotsIn, cleared};
+ghost use Rattle.model.specs.calls.Search.{searchEnd, slotsIn, cleared};
 ghost use Rattle.model.specs.job.Decoding.{jobVerdict};
 ghost use Rattle.dijkstra.specs.Search.{searchIn};
 ghost use Rattle.table.specs.Slots.{slotAt};
 ghost use Rattle.paths.specs.Chain.{held, stepsAt, slotPath, Chained};
 ghost use Rattle.held.specs.Held.{sys};
-ghost use Rattle.search.specs.Given.{searchEnd, endOf, HandsOver, stepsIn};
+ghost use Rattle.search.specs.Given.{endOf, HandsOver};
 
 // Writes the path of slot g to the plan buffer, unless that is shorter.
 fn hand_over(t: &[u8], n: usize, g: usize, plan: &mut [u8]) -> Searched
     requires { ⌜ (n * 160 ≤ length (now t)) × Chained (held (now t) n) × (g < n) ⌝ }
-    ensures { λ r. ⌜ HandsOver (slotAt (now (t .entry)) g .cost) (slotPath (held (now (t .entry)) n) (stepsAt (held (now (t .entry)) n) g) g) (now (plan .entry)) r (now (plan .exit)) ⌝ }
+    ensures { λ r. ⌜ HandsOver (slotAt (now (t .entry)) g .cost) (slotPath (held (now (t .entry)) n) (stepsAt (held (now (t .entry)) n) g) g)
+        (now (plan .entry)) r (now (plan .exit)) ⌝ }
 {
     let steps = slots::steps(t, g) as usize;
     if plan.len() < steps {
@@ -45,15 +46,5 @@ pub fn answer(job: &[u8], table: &mut [u8], plan: &mut [u8]) -> Searched
             number: 10,
             place: 0,
         }),
-    }
-}
-
-// How many steps were written to the plan buffer.
-pub fn steps_of(r: Searched) -> usize
-    ensures { λ n. ⌜ n ≡ stepsIn r ⌝ }
-{
-    match r {
-        Searched::Planned(_, n) => n,
-        Searched::Refused(_) => 0,
     }
 }

@@ -30,7 +30,7 @@ listOf-elements a n e =
     ext-getD 0 (listOf (λ j. getD a j 0) n) a (length-listOf (λ j. getD a j 0) n ∙ sym e)
     (λ i l. getD-listOf (λ j. getD a j 0) n i 0 (omega (arith, length-listOf (λ j. getD a j 0) n)))
 
--- One more element stored behind the first j, over the zeros of a new array.
+-- One more element stored after the first j, over the zeros of a new array.
 pub listOf-more : (f : ℕ → ℕ) (z a : List ℕ) (j v : ℕ) → a ≡ listOf f j ++ drop j z → v ≡ f j → j < length z → set a j v ≡ listOf f (j + 1) ++ drop (j + 1) z
 unfolding listOf
 listOf-more f z a j v e q h =
@@ -45,7 +45,7 @@ number-set (suc n) i v [] h = refl
 number-set (suc n) zero v (b ∷ l) h = absurd (not-suc-le-zero h)
 number-set (suc n) (suc i) v (b ∷ l) h = rw (number-set n i v l (le-of-suc-le-suc h))
 
--- A byte before or behind a number does not change it.
+-- A byte before or after a number does not change it.
 number-before : (n at k v : ℕ) (l : List ℕ) → k < at → numberAt n (set l k v) at ≡ numberAt n l at
 unfolding numberAt
 number-before n at k v l h = rw (drop-set-lt at l k v h)

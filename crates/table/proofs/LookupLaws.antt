@@ -23,7 +23,7 @@ use Rattle.table.proofs.SlotLaws.{length-slots, length-node, node-word}
 
 -- ---- two lists of numbers, compared from the front
 
--- Where their elements at j agree, what decides is behind them; where these differ, the lists do; lists that end there are the same.
+-- Where their elements at j agree, what decides is after them; where these differ, the lists do; lists that end there are the same.
 pub same-on : (a b : List ℕ) (j : ℕ) → getD a j 0 ≡ getD b j 0 → j < length a → j < length b
     → sameNumbers (drop j a) (drop j b) ≡ sameNumbers (drop (j + 1) a) (drop (j + 1) b)
 unfolding sameNumbers

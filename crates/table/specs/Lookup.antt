@@ -19,7 +19,7 @@ findIn n (s ∷ ss) k = elim (sameNumbers n (s .node)) [ true ↦ At k | false �
 abbrev pub keyOf : ℕ → ℕ → Key
 keyOf c s = record { cost = c; steps = s }
 
--- the better of slot k and the best of those behind it: slot k, unless it was taken or that one has a lesser key
+-- the better of slot k and the best of those after it: slot k, unless it was taken or that one has a lesser key
 unfoldable pub better : Slot → ℕ → Best → Best
 better s k NoOpen = choose (s .taken) NoOpen (Open k (s .cost) (s .steps))
 better s k (Open i c n) =

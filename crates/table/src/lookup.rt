@@ -65,7 +65,7 @@ fn is_less(cost: u64, steps: u64, cost2: u64, steps2: u64) -> bool
     })
 }
 
-// The better of the slot i and the best behind it; of equal keys the first.
+// The better of the slot i and the best after it; of equal keys the first.
 fn choose(t: &[u8], best: Best, i: usize) -> Best
     requires { ⌜ i * 160 + 160 ≤ length (now t) ⌝ }
     ensures { λ r. ⌜ r ≡ better (slotAt (now (t .entry)) i) i best ⌝ }

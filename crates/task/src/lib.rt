@@ -1,13 +1,15 @@
 // Actions, states and keys as values: what an action does to a state, and how keys of paths compare.
 ghost use mathlib.Core.Path.{_≡_};
-ghost use Prim.Native.Nat.{_+_, _-_, _<_, _^_};
+ghost use Prim.Native.Nat.{_+_, _-_, _*_, _≤_, _<_, _^_};
 ghost use lib.Bits.{bitAnd};
 ghost use lib.ListN.{length, getD};
 ghost use mathlib.Core.List.{map};
+ghost use Rattle.model.specs.Bits.{digit};
 ghost use Rattle.model.specs.job.Job.{noAction};
 ghost use Rattle.model.specs.task.State.{within, applicable, after};
 ghost use Rattle.model.specs.exploration.Key.{extend, less, sameKey};
 ghost use Rattle.task.specs.Meaning.{actionIs, keyIs};
+ghost use Rattle.task.specs.Applicable.{applicableSet};
 
 // Document 01 calls an action a step. Each of the three sets is a number whose bit i is fact i.
 pub struct Action {
@@ -92,11 +94,45 @@ impl Key {
     }
 }
 
-// One action of a lent list, which is read and never written. A slice of structs is not covered by the borrow checker, so this is the only function
-// over one, and its proof is a walk by hand.
+// One action of a lent list, which is read and never written. A slice of structs is not covered by the borrow checker, so each function that takes one
+// or lends one is thin, and its proof is a walk by hand: this one, applicable_in and applicable_set.
 pub fn action_at(actions: &[Action], i: usize) -> Action
     requires { ⌜ i < length (now actions) ⌝ }
     ensures { λ r. ⌜ actionIs r ≡ getD (map actionIs (now (actions .entry))) i noAction ⌝ }
 {
     actions[i]
+}
+
+// A set with one more action below the others.
+fn marked(a: Action, facts: u64, set: u64) -> u64
+    requires { ⌜ set < 2 ^ 63 ⌝ }
+    ensures { λ r. ⌜ r ≡ digit (applicable (actionIs a) facts) + 2 * set ⌝ }
+{
+    let state = State { facts };
+    if state.applicable(a) {
+        1 + 2 * set
+    } else {
+        2 * set
+    }
+}
+
+// Those actions of a lent list that are applicable in a state: bit i is action i. The last is looked up first, so that each next one is bit 0.
+pub fn applicable_in(actions: &[Action], facts: u64) -> u64
+    requires { ⌜ length (now actions) ≤ 64 ⌝ }
+    ensures { λ r. ⌜ r ≡ applicableSet (map actionIs (now (actions .entry))) facts ⌝ }
+{
+    let mut set = 0;
+    let mut i = actions.len();
+    while 0 < i {
+        i -= 1;
+        set = marked(action_at(actions, i), facts, set);
+    }
+    set
+}
+
+// The same of eight actions that are held, which are lent. Since their number is fixed, the compiler unrolls the loop and copies no array.
+pub fn applicable_set(actions: [Action; 8], facts: u64) -> u64
+    ensures { λ r. ⌜ r ≡ applicableSet (map actionIs actions) facts ⌝ }
+{
+    applicable_in(&actions, facts)
 }

@@ -20,7 +20,7 @@ module _ (bytes : List ℕ) where
     unfolding closedAt jobOf
     constraint-closed l = rw (getD-listOf (λ k. formulaAt bytes (1 + k)) (constraintCount bytes) i (constant True) l)
 
-    -- Hint i stands behind the constraints.
+    -- Hint i stands after the constraints.
     pub hint-closed : i < hintCount bytes
         → closing (partsOf (formulaAt bytes (1 + (constraintCount bytes + i)))) (getD rs i 0) (still s) ≡ closedAt (jobOf bytes .hints) rs s i
     unfolding closedAt jobOf

@@ -77,7 +77,7 @@ module _ (j : Job) (φs : List Formula) (few : FewParts φs) (short : length φs
     few-at : length (partsOf (formula φs i)) ≤ 6
     few-at = all-getD (λ φ. length (partsOf φ) ≤ 6) (constant True) φs few i l
 
-    -- What is left behind steps is true of the closing world exactly if what was left before is true of the steps' worlds.
+    -- What is left after steps is true of the closing world exactly if what was left before is true of the steps' worlds.
     tracked-right : (p : List ℕ) (s : ℕ) (rs : List ℕ) → length rs ≡ 8
         → closedAt φs (tracked j φs s rs p) (stateAfter j s p) i ≡ residualHolds (partsOf (formula φs i)) (getD rs i 0) (worldsAfter j s p)
     unfolding closedAt closing tracked stateAfter worldsAfter

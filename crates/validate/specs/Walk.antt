@@ -1,4 +1,4 @@
--- The walk along a step list, and the checks behind its last step by what constraints and hints have left.
+-- The walk along a step list, and the checks after its last step by what constraints and hints have left.
 use Prim.Native.Nat.{ℕ, zero, suc, _+_, _*_}
 use mathlib.Core.Bool.{Bool}
 use mathlib.Core.Option.{none, some}

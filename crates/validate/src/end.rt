@@ -1,4 +1,4 @@
-// The checks behind the last step: the goal, the constraints in turn, and which hints are met.
+// The checks after the last step: the goal, the constraints in turn, and which hints are met.
 use super::walk::Walk;
 use job::access;
 use job::checks;

@@ -17,7 +17,7 @@ ghost use Rattle.validate.specs.Answer.{answer};
 ghost use Rattle.validate.specs.Walk.{walkOf, judged};
 
 mod walk; // walk.rt: what the steps made so far lead to
-mod end; // end.rt: the checks behind the last step
+mod end; // end.rt: the checks after the last step
 
 // Checks and makes the steps in turn, and judges where they lead.
 fn through(job: &[u8], work: &mut [u64], steps: &[u8]) -> Validated

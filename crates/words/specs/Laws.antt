@@ -14,7 +14,7 @@ number-at : (n at : ℕ) (l : List ℕ) → at < length l → numberAt (suc n) l
 unfolding numberAt number
 number-at n at l h = rw (drop-cons l at 0)
 
--- the same k bytes behind a place
+-- the same k bytes after a place
 number-from : (n at k : ℕ) (l : List ℕ) → at + k < length l → numberAt (suc n) l (at + k) ≡ getD l (at + k) 0 + 256 * numberAt n l (at + suc k)
 number-from n at k l h = let e : suc (at + k) ≡ at + suc k = omega arith in number-at n (at + k) l h ∙ ap (λ (x : ℕ). getD l (at + k) 0 + 256 * numberAt n l x) e
 

@@ -1,4 +1,4 @@
-// Little-endian numbers of 16 and 64 bits in byte slices.
+// Bytes as numbers: little-endian numbers of 16 and 64 bits in byte slices.
 ghost use mathlib.Core.Path.{_≡_};
 ghost use Prim.Native.Nat.{_+_, _*_, _≤_, _<_, _%_};
 ghost use lib.ListN.{length};
@@ -6,7 +6,8 @@ ghost use lib.Seq.{sets};
 ghost use Rattle.model.specs.Bits.{numberAt};
 ghost use Rattle.words.specs.Digits.{digits, two, eight};
 
-fn wide(x: u8) -> u64
+// A byte as a number.
+pub fn wide(x: u8) -> u64
     ensures { λ r. ⌜ (r ≡ x) × (r < 256) ⌝ }
 {
     x as u64
@@ -55,15 +56,6 @@ pub fn get64(s: &[u8], at: usize) -> u64
     ensures { λ r. ⌜ r ≡ numberAt 8 (now (s .entry)) at ⌝ }
 {
     eight_bytes(s, at)
-}
-
-// Writes a 16-bit number at an offset.
-pub fn put16(t: &mut [u8], at: usize, v: u64)
-    requires { ⌜ at + 2 ≤ length (now t) ⌝ }
-    ensures { λ _. ⌜ now (t .exit) ≡ sets (now (t .entry)) at (digits 2 v) ⌝ }
-{
-    t[at] = low(v);
-    t[at + 1] = low(v / 256);
 }
 
 // Writes a 64-bit number at an offset.

@@ -55,11 +55,11 @@ module _ (t : ℕ) where
     read.Post,
   )
 
-  -- the place behind the three calls that every arm needs
+  -- the place after the three calls that every arm needs
   abbrev Here : Type 0
   Here = read-lts.After-seen-here claims (read-at t) read.Post
 
-  -- what is answered behind this place, at a position
+  -- what is answered after this place, at a position
   abbrev rest : Here → Bool → Seen → ℕ → Extent
   rest c u x m = let a = c .before .before .before .before .before .before .args in extent u x m (parsed (a .facts) (a .actions) (a .s .now) m)
 

@@ -22,7 +22,7 @@ use Rattle.formula.proofs.refused.Reads as refused-reads
 abbrev claims : lts.Claims
 claims = (read-reads.Asked, read-reads.Learnt, refused-reads.Asked, refused-reads.Learnt)
 
--- the place behind the call of `read`
+-- the place after the call of `read`
 abbrev Here : Type 0
 Here = lts.After-read claims reads.Pre reads.Post
 

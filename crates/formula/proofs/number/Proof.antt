@@ -1,4 +1,4 @@
--- `number` answers where a number behind a code ends, or that it is too large: by its two tests.
+-- `number` answers where a number after a code ends, or that it is too large: by its two tests.
 use borrow.Author.Needs.{needs}
 use borrow.Author.Tests.{lt-ltb, le-ltb}
 use Rattle.formula.specs.Extent.{numberExtent}

@@ -3,8 +3,9 @@ use mathlib.Core.Path.{_≡_}
 use borrow.Author.Needs.{needs}
 use Rattle.model.specs.declared.Verdict.the-variants.{Fine}
 use Rattle.model.specs.job.Decoding.{headVerdict, pairsVerdict, taskVerdict, jobVerdict}
+use Rattle.model.proofs.job.Accepted.{head-fine as counts-of}
 use Rattle.job.proofs.TurnLaws.{refused, fine, after}
-use Rattle.job.proofs.Bounds.{head-whole, laid}
+use Rattle.job.proofs.Bounds.{laid}
 use Rattle.job.proofs.decode.Statement.{statement}
 use Rattle.job.proofs.decode.Tie as tie
 
@@ -23,7 +24,7 @@ unfolding jobVerdict
 returns c = refused _ _ _ (c .before .before .check-head .ensures) (c .before .refuses .ensures) (c .if1 .taken)
 
 check-pairs-requires : tie.Need-check-pairs-requires
-check-pairs-requires c κs = head-whole _ (head-fine c)
+check-pairs-requires c κs = counts-of _ (head-fine c) .whole
 
 returns-2 : tie.Need-returns-2
 unfolding jobVerdict

@@ -1,13 +1,13 @@
 -- Laws of `bitsOf`: the number whose bits are a test of a list's elements.
 use mathlib.Core.Path.{_≡_, ap, _∙_}
-use Prim.Native.Nat.{ℕ, suc, _+_, _*_, _/_, _%_, _^_, _<_}
+use Prim.Native.Nat.{ℕ, zero, suc, _+_, _*_, _/_, _%_, _^_, _≤_, _<_}
 use native.Mathlib.Omega.{arith}
 use mathlib.Core.Bool.{Bool, true, false}
 use mathlib.Core.List.{List, [], _∷_}
 use lib.Dec.{eqb}
-use lib.ListN.{length}
+use lib.ListN.{length, getD}
 use Rattle.model.specs.Bits.{bit, digit, bitsOf}
-use Rattle.model.proofs.bits.Bits.{bit-suc}
+use Rattle.model.proofs.bits.Bits.{bit-suc, bit-zero}
 
 digit-half : (b : Bool) (m : ℕ) → (digit b + 2 * m) / 2 ≡ m
 unfolding digit
@@ -35,7 +35,20 @@ module _ {A : Type 0} (f : A → Bool) where
   unfolding bitsOf
   bitsOf-head x xs = digit-low (f x) (bitsOf f xs)
 
-  -- the bits above are the other elements'
+  -- the other bits are the other elements'
   pub bitsOf-tail : (x : A) (xs : List A) (i : ℕ) → bit (bitsOf f (x ∷ xs)) (suc i) ≡ bit (bitsOf f xs) i
   unfolding bitsOf
   bitsOf-tail x xs i = bit-suc _ i ∙ ap (λ (y : ℕ). bit y i) (digit-half (f x) (bitsOf f xs))
+
+  -- bit i is element i's, where there is one
+  pub bitsOf-at : (d : A) (xs : List A) (i : ℕ) → i < length xs → bit (bitsOf f xs) i ≡ f (getD xs i d)
+  bitsOf-at d [] i l = absurd (omega arith)
+  bitsOf-at d (x ∷ xs) zero l = bitsOf-head x xs
+  bitsOf-at d (x ∷ xs) (suc i) l = bitsOf-tail x xs i ∙ bitsOf-at d xs i (omega arith)
+
+  -- after the last element's there is none
+  pub bitsOf-past : (xs : List A) (i : ℕ) → length xs ≤ i → bit (bitsOf f xs) i ≡ false
+  unfolding bitsOf
+  bitsOf-past [] i l = bit-zero i
+  bitsOf-past (x ∷ xs) zero l = absurd (omega arith)
+  bitsOf-past (x ∷ xs) (suc i) l = bitsOf-tail x xs i ∙ bitsOf-past xs i (omega arith)

@@ -9,13 +9,13 @@ use lib.ListN.{length, length-map}
 use Rattle.model.specs.exploration.Key.{Key, Le, Lt}
 use Rattle.model.specs.exploration.System.{System}
 use Rattle.model.specs.exploration.Equations.{Bound, unbounded, Within, Answer, plan, Entries, Explores, Uncut, Plan, NoGoal, Answers, with-plan, some-cut, none-cut}
-use Rattle.model.specs.exploration.Explore.{Entry, reached, solve}
+use Rattle.model.specs.exploration.Explore.{Entry, Of, reached, solve}
 use Rattle.model.proofs.exploration.KeyLaws.{lt-le, le-antisym, lt-or-le, first-antisym}
 use Rattle.model.proofs.exploration.Laws.{Laws, Finite}
 use Rattle.model.proofs.exploration.Each.{All, all-map}
 use Rattle.model.proofs.exploration.Counting.{Apart, apart-length}
 use Rattle.model.proofs.exploration.Uniqueness.{within-below, unique}
-use Rattle.model.proofs.exploration.Solves.{Of, reached-solves}
+use Rattle.model.proofs.exploration.Solves.{reached-solves}
 use Rattle.model.proofs.exploration.Paths.{path-end, path-cast, path-map}
 use Rattle.model.proofs.exploration.FirstPaths.{reached-path, reached-first}
 use Rattle.model.proofs.exploration.Best.{answer-answers}

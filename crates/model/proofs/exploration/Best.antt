@@ -9,11 +9,10 @@ use lib.ListN.{length}
 use Rattle.model.specs.exploration.Key.{Key, Le, Lt, less, earlier, First}
 use Rattle.model.specs.exploration.System.{System}
 use Rattle.model.specs.exploration.Equations.{Uncut, Path, Plan, Answers, with-plan, some-cut, none-cut}
-use Rattle.model.specs.exploration.Explore.{Entry, isCut, better, bestGoal, someCut, answer}
+use Rattle.model.specs.exploration.Explore.{Entry, Of, isCut, better, bestGoal, someCut, answer}
 use Rattle.model.proofs.exploration.KeyLaws.{le-refl, le-trans, lt-le, not-below, le-antisym, less-yes, less-no, first-total, first-trans}
 use Rattle.model.proofs.exploration.Each.{All, all-map, all-at, all-mem}
 use Rattle.model.proofs.exploration.Gather.{Sized}
-use Rattle.model.proofs.exploration.Solves.{Of}
 use Rattle.model.proofs.exploration.Paths.{path-end, path-steps, path-cast}
 
 module _ (S : System) where

@@ -9,7 +9,7 @@ use lib.ListN.{length}
 use Rattle.model.specs.exploration.Key.{Key, extend, Lt, First}
 use Rattle.model.specs.exploration.System.{System}
 use Rattle.model.specs.exploration.Equations.{Starts, Uncut, Path, begin, onward}
-use Rattle.model.specs.exploration.Explore.{Entry, isCut, arrivals, startEntry, reached}
+use Rattle.model.specs.exploration.Explore.{Entry, Of, isCut, arrivals, startEntry, reached}
 use Rattle.model.proofs.exploration.KeyLaws.{extend-lt, extend-not-zero, key-ind, first-trans, first-snoc}
 use Rattle.model.proofs.exploration.Laws.{Laws, Finite}
 use Rattle.model.proofs.exploration.Each.{All, all-at, all-mem}
@@ -17,7 +17,7 @@ use Rattle.model.proofs.exploration.Arrivals.{arrivals-all, arrivals-at
 use Rattle.model.proofs.exploration.Gather.{At}
 use Rattle.model.proofs.exploration.Invariant.{Gathered, Inv}
 use Rattle.model.proofs.exploration.Fuel.{reached-none, reached-inv}
-use Rattle.model.proofs.exploration.Solves.{Of, distinct-eq}
+use Rattle.model.proofs.exploration.Solves.{distinct-eq}
 use Rattle.model.proofs.exploration.Paths.{path-end, path-run, path-steps, path-cast}
 
 module _ (S : System) (laws : Laws S) (m0 : S .Node) (starts : Starts S m0) (M : List (Entry S)) (inv : Inv S (startEntry S m0) M) where
@@ -71,7 +71,7 @@ module _ (S : System) (laws : Laws S) (m0 : S .Node) (starts : Starts S m0) (M :
           first-trans _ _ _ f (first-snoc (d .path) p i l (ih d (v .1 .1) (v .1 .2) (v .1 .3)))
 
 module _ (S : System) (laws : Laws S) (fin : Finite S) where
-  -- The path of an uncut entry is a path to its node with its key,
+  -- The path of an uncut entry is a path to its node with its key.
   pub reached-path : (e : Entry S) → List·Memᴰ e (reached S) → isCut S e ≡ false → Path S (Of S (reached S)) (e .path) (e .node) (e .key)
   reached-path e m c = go (S .start) refl
     where
@@ -79,7 +79,7 @@ module _ (S : System) (laws : Laws S) (fin : Finite S) where
       go none s = absurd (List·Memᴰ·not-nil (subst (List·Memᴰ e) (reached-none S s) m))
       go (some m0) s = whole S laws m0 s (reached S) ((reached-inv S laws fin s) .0) (e .key) e m refl c
 
-  -- and the first of all these.
+  -- The path of an entry is the first of all paths to its node with its key.
   pub reached-first : (e : Entry S) → List·Memᴰ e (reached S) → (q : List ℕ) → Path S (Of S (reached S)) q (e .node) (e .key) → First (e .path) q
   reached-first e m q r =
       let s = path-run S r in

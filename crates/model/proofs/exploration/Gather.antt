@@ -86,7 +86,7 @@ module _ (S : System) where
           λ k. t .1 (k .0, k .1 .1),
         )
 
-    -- The gathered path is that of the entry or of an arrival like it,
+    -- The gathered path is that of the entry or of an arrival at the same node with the same key.
     pub gather-path : (P : List ℕ → Type 0) (c : Entry S) (xs : List (Entry S)) → P (c .path) → All (λ x. At c x → P (x .path)) xs → P (gather S c xs .path)
     unfolding gather merge
     gather-path P c [] a h = a
@@ -96,7 +96,7 @@ module _ (S : System) where
         go true e s t = rw (e, gather) (s (firstOf-is P (c .path) (x .path) a (h .0 (alike-at c x e))))
         go false e s t = rw (e, gather) t
 
-    -- and the first of them.
+    -- The gathered path is the first of those of the entry and of the arrivals like it.
     pub gather-first : (c : Entry S) (xs : List (Entry S)) → Fit c → All Fit xs
         → First (gather S c xs .path) (c .path) × All (λ x. At c x → First (gather S c xs .path) (x .path)) xs
     unfolding gather merge

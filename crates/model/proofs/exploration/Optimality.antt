@@ -4,9 +4,10 @@ use Prim.Native.Nat.{ℕ, _≤_}
 use mathlib.Core.Bool.{Bool, true, false, true≢false}
 use mathlib.Core.List.{List, [], _∷_, _++_, append-nil, append-assoc}
 use mathlib.Core.Logic.{_⊎_, inl, inr}
-use Rattle.model.specs.exploration.Key.{Key, zeroKey, extend, Le, Lt, First}
+use Rattle.model.specs.exploration.Key.{Key, zeroKey, Le, Lt, First}
 use Rattle.model.specs.exploration.System.{System}
 use Rattle.model.specs.exploration.Equations.{unbounded, Entries, Starts, Arrives, Explores, Uncut, Path, begin, onward, Plan, NoGoal}
+use Rattle.model.proofs.exploration.Stepping.{arrives-by}
 use Rattle.model.proofs.exploration.KeyLaws.{lt-le, le-lt-trans, not-below, le-antisym, lt-or-le, key-ind}
 use Rattle.model.proofs.exploration.Laws.{Laws, HintLaws}
 use Rattle.model.proofs.exploration.Uniqueness.{arrives-lt, start-only, away}
@@ -51,11 +52,11 @@ module _ (S : System) where
             subst (λ (z : S .Hints). hl .meets n z as′ ≡ true) (p .1) (kept as′ (n, t, s, subst (λ (z : Key). Run S n z as′ t e) (sym (p .0)) r, g) n s)
         entry-kept h l (inr a) = (hl .meets-made n h as′ (x .proper l)) .1 (λ s made. (x .conjoined (away S x l (a .1)) l s) .1 (λ f b. arrival-kept f b s made))
 
-      -- The rest of a run of the least key meets the hint residuals of each entry on it,
+      -- The rest of a run of the least key meets the hint residuals of each entry on it.
       hints-kept : (k : Key) → KeptAt k
       hints-kept = key-ind KeptAt (λ k ih n h l as′ t r g. entry-kept k ih n as′ t r g h l (x .arrived l))
 
-      -- so that no entry on it is cut.
+      -- No entry on a run of the least key is cut.
       uncut-on : {n : S .Node} {k : Key} {h : S .Hints} {as′ : List ℕ} {t : S .Node} → L n k h → Run S n k as′ t e → S .goal t ≡ true → S .cut h ≡ false
       uncut-on {n} {k} {h} {as′} {t} l r g = go (S .cut h) refl
         where
@@ -82,18 +83,7 @@ module _ (S : System) where
       follows stop g p q = path-cast S (sym (append-nil p)) refl refl q
       follows (on {m = m} {n = n} {t = t} {k = k} {as′ = as′} i d s r) g p q =
           let u = path-end S q in
-          let a : Arrives S L n (extend k (S .cost i)) (S .carry (u .0) n i) = record {
-            source = m;
-            key = k;
-            hints = u .0;
-            action = i;
-            entry = u .1;
-            inRange = d;
-            uncut = u .2;
-            leads = s;
-            keyIs = refl;
-            hintsAre = refl;
-          } in
+          let a = arrives-by S L i (u .1) d (u .2) s in
           let l = on-least a r g in
           path-cast S (append-assoc p (i ∷ []) as′) refl refl (follows r g (p ++ (i ∷ [])) (onward i q d s (l .0, l .1, uncut-on (l .1) r g)))
 

@@ -8,9 +8,10 @@ use mathlib.Core.List.{List, [], _∷_, List·Memᴰ, List·Memᴰ·not-nil, Lis
 use mathlib.Core.Logic.{_⊎_, inl, inr, _↔_}
 use Rattle.model.specs.exploration.Key.{Key, zeroKey, extend, Le}
 use Rattle.model.specs.exploration.System.{System}
-use Rattle.model.specs.exploration.Equations.{unbounded, Within, Entries, Starts, Arrives, Explores}
-use Rattle.model.specs.exploration.Explore.{Entry, isCut, arrivals, known, startEntry, reached}
+use Rattle.model.specs.exploration.Equations.{unbounded, Within, Starts, Arrives, Explores}
+use Rattle.model.specs.exploration.Explore.{Entry, Of, isCut, arrivals, known, startEntry, reached}
 use Rattle.model.proofs.exploration.Laws.{Laws, Finite}
+use Rattle.model.proofs.exploration.Stepping.{arrives-by}
 use Rattle.model.proofs.exploration.Each.{All, all-map, all-at, all-mem}
 use Rattle.model.proofs.exploration.Arrivals.{arrivals-all, arrivals-at, new-apart, known-entry}
 use Rattle.model.proofs.exploration.Gather.{At}
@@ -18,13 +19,9 @@ use Rattle.model.proofs.exploration.Invariant.{Gathered, Distinct, Comp
 use Rattle.model.proofs.exploration.Fuel.{reached-none, reached-inv}
 
 module _ (S : System) where
-  -- the set of a list's entries
-  abbrev pub Of : List (Entry S) → Entries S
-  Of M n k h = (e : Entry S) × List·Memᴰ e M × (e .node ≡ n) × (e .key ≡ k) × (e .hints ≡ h)
-
   -- What holds of every arrival in the list holds of every arrival of the set.
   to-set : (M : List (Entry S)) (P : S .Node → Key → S .Hints → Type 0) → All (λ x. P (x .node) (x .key) (x .hints)) (arrivals S M)
-      → {n : S .Node} {k : Key} {h : S .Hints} → Arrives S (Of M) n k h → P n k h
+      → {n : S .Node} {k : Key} {h : S .Hints} → Arrives S (Of S M) n k h → P n k h
   to-set M P f {n} {k} {h} a =
       let e = a .entry .0 in
       let cut : isCut S e ≡ false = ap (S .cut) (a .entry .4) ∙ a .uncut in
@@ -34,23 +31,12 @@ module _ (S : System) where
       (subst (λ (z : S .Hints). P n (extend (e .key) (S .cost (a .action))) z) (ap (λ (z : S .Hints). S .carry z n (a .action)) (a .entry .4) ∙ sym (a .hintsAre)) p)
 
   -- Every arrival in the list is one of the set.
-  all-arrive : (M : List (Entry S)) → All (λ x. Arrives S (Of M) (x .node) (x .key) (x .hints)) (arrivals S M)
+  all-arrive : (M : List (Entry S)) → All (λ x. Arrives S (Of S M) (x .node) (x .key) (x .hints)) (arrivals S M)
   all-arrive M = arrivals-all S (λ e. List·Memᴰ e M) _ one M (all-mem _ M (λ y m. m))
     where
       one : (e : Entry S) (n : S .Node) (i : ℕ) → List·Memᴰ e M → isCut S e ≡ false → i < S .actions → S .step (e .node) i ≡ some n
-          → Arrives S (Of M) n (extend (e .key) (S .cost i)) (S .carry (e .hints) n i)
-      one e n i m c b s = record {
-        source = e .node;
-        key = e .key;
-        hints = e .hints;
-        action = i;
-        entry = (e, m, refl, refl, refl);
-        inRange = b;
-        uncut = c;
-        leads = s;
-        keyIs = refl;
-        hintsAre = refl;
-      }
+          → Arrives S (Of S M) n (extend (e .key) (S .cost i)) (S .carry (e .hints) n i)
+      one e n i m c b s = arrives-by S (Of S M) i (e, m, refl, refl, refl) b c s
 
   module _ (laws : Laws S) where
     not-new : (L : List (Entry S)) (e x : Entry S) → List·Memᴰ e L → e .node ≡ x .node → known S (x .node) L ≡ false → ⊥
@@ -70,41 +56,41 @@ module _ (S : System) where
 
     module _ (m0 : S .Node) (starts : Starts S m0) (M : List (Entry S)) (inv : Inv S (startEntry S m0) M) (full : Complete S M) where
       -- An arrival at the node and of the key of an entry, as one at n with k.
-      moved : {n : S .Node} {k : Key} {f : S .Hints} (m : S .Node) (j : Key) → m ≡ n → j ≡ k → Arrives S (Of M) m j f → Arrives S (Of M) n k f
-      moved {n} {k} {f} m j p q a = subst (λ (z : S .Node). Arrives S (Of M) z k f) p (subst (λ (z : Key). Arrives S (Of M) m z f) q a)
+      moved : {n : S .Node} {k : Key} {f : S .Hints} (m : S .Node) (j : Key) → m ≡ n → j ≡ k → Arrives S (Of S M) m j f → Arrives S (Of S M) n k f
+      moved {n} {k} {f} m j p q a = subst (λ (z : S .Node). Arrives S (Of S M) z k f) p (subst (λ (z : Key). Arrives S (Of S M) m z f) q a)
 
       start-at : {e : Entry S} {n : S .Node} → e ≡ startEntry S m0 → e .node ≡ n → Starts S n
       unfolding startEntry
       start-at p q = starts ∙ ap some (sym (ap (λ (z : Entry S). z .node) p) ∙ q)
 
-      solve-start : {n : S .Node} → Starts S n → Of M n zeroKey (S .startHints)
+      solve-start : {n : S .Node} → Starts S n → Of S M n zeroKey (S .startHints)
       unfolding startEntry
       solve-start {n} s = let e : m0 ≡ n = cc in (startEntry S m0, inv .begun, e, refl, refl)
 
-      solve-complete : {n : S .Node} {k : Key} {h : S .Hints} → Within unbounded k → Arrives S (Of M) n k h → (j : Key) × (g : S .Hints) × Of M n j g
+      solve-complete : {n : S .Node} {k : Key} {h : S .Hints} → Within unbounded k → Arrives S (Of S M) n k h → (j : Key) × (g : S .Hints) × Of S M n j g
       solve-complete {n} w a =
           let e = known-entry S laws n M (to-set M (λ z i f. known S z M ≡ false → ⊥) full a) in
           (e .0 .key, e .0 .hints, (e .0, e .1, e .2, refl, refl))
 
-      solve-arrived : {n : S .Node} {k : Key} {h : S .Hints} → Of M n k h → Starts S n ⊎ ((g : S .Hints) × Arrives S (Of M) n k g)
+      solve-arrived : {n : S .Node} {k : Key} {h : S .Hints} → Of S M n k h → Starts S n ⊎ ((g : S .Hints) × Arrives S (Of S M) n k g)
       solve-arrived {n} {k} {h} l = go (all-at _ M (l .1) (inv .founded))
         where
-          go : (l .0 ≡ startEntry S m0) ⊎ Gathered S (arrivals S M) (l .0) → Starts S n ⊎ ((g : S .Hints) × Arrives S (Of M) n k g)
+          go : (l .0 ≡ startEntry S m0) ⊎ Gathered S (arrivals S M) (l .0) → Starts S n ⊎ ((g : S .Hints) × Arrives S (Of S M) n k g)
           go (inl p) = inl (start-at p (l .2))
           go (inr f) =
               let x = f .from in
               inr (x .0 .hints, moved (x .0 .node) (x .0 .key) (x .2 .0 ∙ l .2) (x .2 .1 ∙ l .3) (all-at _ (arrivals S M) (x .1) (all-arrive M)))
 
-      solve-least : {n : S .Node} {j k : Key} {g h : S .Hints} → Of M n j g → Arrives S (Of M) n k h → Le j k
+      solve-least : {n : S .Node} {j k : Key} {g h : S .Hints} → Of S M n j g → Arrives S (Of S M) n k h → Le j k
       solve-least {n} {j} {k} l a =
           let q = to-set M (λ z i f. All (λ y. S .same z (y .node) ≡ true → Le (y .key) i) M) (all-map _ _ (λ x good. good .0) (arrivals S M) (inv .good)) a in
           subst (λ (z : Key). Le z k) (l .3) (all-at _ M (l .1) q (subst (λ (z : S .Node). S .same n z ≡ true) (sym (l .2)) (laws .same-refl n)))
 
-      solve-conjoined : {n : S .Node} {k : Key} {h : S .Hints} → (Starts S n → ⊥) → Of M n k h → (s : S .Setting)
-          → (S .trueAt h s ≡ true) ↔ ((g : S .Hints) → Arrives S (Of M) n k g → S .trueAt g s ≡ true)
+      solve-conjoined : {n : S .Node} {k : Key} {h : S .Hints} → (Starts S n → ⊥) → Of S M n k h → (s : S .Setting)
+          → (S .trueAt h s ≡ true) ↔ ((g : S .Hints) → Arrives S (Of S M) n k g → S .trueAt g s ≡ true)
       solve-conjoined {n} {k} {h} far l s = go (all-at _ M (l .1) (inv .founded))
         where
-          go : (l .0 ≡ startEntry S m0) ⊎ Gathered S (arrivals S M) (l .0) → (S .trueAt h s ≡ true) ↔ ((g : S .Hints) → Arrives S (Of M) n k g → S .trueAt g s ≡ true)
+          go : (l .0 ≡ startEntry S m0) ⊎ Gathered S (arrivals S M) (l .0) → (S .trueAt h s ≡ true) ↔ ((g : S .Hints) → Arrives S (Of S M) n k g → S .trueAt g s ≡ true)
           go (inl p) = absurd (far (start-at p (l .2)))
           go (inr f) = (
             λ t g a.
@@ -115,15 +101,15 @@ module _ (S : System) where
                 ap (λ (z : S .Hints). S .trueAt z s) (sym (l .4)) ∙ (f .conjoined s) .1 all,
           )
 
-      solve-one : {n : S .Node} {j k : Key} {g h : S .Hints} → Of M n j g → Of M n k h → (j ≡ k) × (g ≡ h)
+      solve-one : {n : S .Node} {j k : Key} {g h : S .Hints} → Of S M n j g → Of S M n k h → (j ≡ k) × (g ≡ h)
       solve-one a b =
           let p = distinct-eq M (inv .distinct) (a .0) (b .0) (a .1) (b .1) (a .2 ∙ sym (b .2)) in
           (sym (a .3) ∙ ap (λ (z : Entry S). z .key) p ∙ b .3, sym (a .4) ∙ ap (λ (z : Entry S). z .hints) p ∙ b .4)
 
-      solve-proper : {n : S .Node} {k : Key} {h : S .Hints} → Of M n k h → S .Proper h
+      solve-proper : {n : S .Node} {k : Key} {h : S .Hints} → Of S M n k h → S .Proper h
       solve-proper l = subst (S .Proper) (l .4) ((all-at _ M (l .1) (inv .fit)) .0)
 
-      solves : Explores S unbounded (Of M)
+      solves : Explores S unbounded (Of S M)
       solves = record {
         start = solve-start;
         complete = solve-complete;
@@ -135,7 +121,7 @@ module _ (S : System) where
       }
 
   -- Where no start node is, no entry solves the equations.
-  none-solves : S .start ≡ none → Explores S unbounded (Of [])
+  none-solves : S .start ≡ none → Explores S unbounded (Of S [])
   none-solves e = record {
     start = λ s. let z : _≡_ {A = ℕ} 0 1 = cc in absurd (omega arith);
     complete = λ w a. absurd (List·Memᴰ·not-nil (a .entry .1));

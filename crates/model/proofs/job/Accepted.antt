@@ -4,7 +4,7 @@ use Prim.Native.Nat.{ℕ, _+_, _-_, _^_, _≤_, _<_}
 use native.Mathlib.Omega.{arith}
 use native.Mathlib.Decide.{decLt}
 use native.Mathlib.Nat.{lt-of-lt-of-le, add-assoc}
-use mathlib.Core.Bool.{Bool, _&&_}
+use mathlib.Core.Bool.{Bool, true, false, _&&_, true≢false}
 use mathlib.Core.List.{List, [], _∷_}
 use lib.Dec.{leb}
 use lib.ListN.{length, getD, drop, length-drop, List·getD-eq-default}
@@ -18,7 +18,8 @@ use Rattle.model.specs.logic.Parts.{Part, partsOf}
 use Rattle.model.specs.logic.Reading.{Parsed, formula, wrong}
 use Rattle.model.specs.job.Job.{Job, Action, noAction, actionOf, listOf}
 use Rattle.model.specs.job.Layout.{factCount, actionCount, constraintCount, hintCount, pairOffset, actionOffset, actionAt, formulaIn, formulaAt, jobOf}
-use Rattle.model.specs.job.Decoding.{countsInRange, partsVerdict, formulaVerdict, headVerdict, pairsVerdict, setVerdict, actionVerdict, taskVerdict, formulasVerdict, jobVerdict}
+use Rattle.model.specs.job.Decoding.{countsInRange, partsVerdict, formulaVerdict, headVerdict, pairsVerdict}
+use Rattle.model.specs.job.Decoding.{setVerdict, actionVerdict, taskVerdict, formulasVerdict, jobVerdict}
 use Rattle.model.proofs.exploration.Each.{All}
 use Rattle.model.proofs.Tests.{and-both}
 use Rattle.model.proofs.job.VerdictLaws.{bad-not-fine, orElse-fine, unless-fine, inTurn-fine, length-listOf, getD-listOf, all-listOf}
@@ -37,6 +38,36 @@ pub record ProperJob (j : Job) : Type 0 where
   pub constraint-parts : FewParts (j .constraints)
   pub hint-parts : FewParts (j .hints)
 
+-- Four tests are true together only if each is.
+pub four-true : (a b c d : Bool) → a && b && c && d ≡ true → (a ≡ true) × (b ≡ true) × (c ≡ true) × (d ≡ true)
+four-true true true true d h = (refl, refl, refl, h)
+four-true true true false d h = absurd (true≢false (sym h))
+four-true true false c d h = absurd (true≢false (sym h))
+four-true false b c d h = absurd (true≢false (sym h))
+
+-- Counts that pass are in their ranges.
+pub counts-fine : (v a : ℕ) → countsInRange v a ≡ true → (1 ≤ v) × (v ≤ 64) × (a ≤ 64)
+unfolding countsInRange
+counts-fine v a h =
+    let p = (and-both (leb 1 v && leb v 64) (leb a 64)) .0 h in
+    let q = (and-both (leb 1 v) (leb v 64)) .0 (p .0) in
+    (leb-true 1 v (q .0), leb-true v 64 (q .1), leb-true a 64 (p .1))
+
+-- A head that passes has its four bytes, and its counts are in their ranges.
+pub record FineHead (bytes : List ℕ) : Type 0 where
+  pub whole : 4 ≤ length bytes
+  pub some-facts : 1 ≤ factCount bytes
+  pub few-facts : factCount bytes ≤ 64
+  pub few-actions : actionCount bytes ≤ 64
+  pub few-constraints : constraintCount bytes ≤ 8
+  pub few-hints : hintCount bytes ≤ 8
+
+-- What passes the checks of a section is a formula.
+pub formula-fine : (o : ℕ) (x : Parsed) → formulaVerdict o x ≡ Fine → (φ : Formula) × (n : ℕ) × (x ≡ formula φ n)
+unfolding formulaVerdict
+formula-fine o (formula φ n) h = (φ, n, refl)
+formula-fine o (wrong p) h = absurd (bad-not-fine h)
+
 no-seventh : (ps : List Part) → drop 6 ps ≡ [] → length ps ≤ 6
 no-seventh ps e = let l : length ps - 6 ≡ 0 = sym (length-drop 6 ps) ∙ ap length e in omega arith
 
@@ -49,32 +80,40 @@ parts-few o ps h = go (drop 6 ps) refl
     go (q ∷ qs) e = absurd (bad-not-fine (rw (e, partsVerdict) at h))
 
 module _ (bytes : List ℕ) where
-  -- The counts of an accepted head are in their ranges.
-  head-counts : headVerdict bytes ≡ Fine → (factCount bytes ≤ 64) × (actionCount bytes ≤ 64) × (constraintCount bytes ≤ 8) × (hintCount bytes ≤ 8)
-  unfolding headVerdict countsInRange
-  head-counts h =
-      let v : Bool = leb 1 (factCount bytes) && leb (factCount bytes) 64 in
-      let r : Bool = v && leb (actionCount bytes) 64 in
-      let a = (unless-fine _ 1 0) .0 h in
-      let b = (and-both (leb 4 (length bytes) && r && leb (constraintCount bytes) 8) (leb (hintCount bytes) 8)) .0 a in
-      let c = (and-both (leb 4 (length bytes) && r) (leb (constraintCount bytes) 8)) .0 (b .0) in
-      let d = (and-both (leb 4 (length bytes)) r) .0 (c .0) in
-      let e = (and-both v (leb (actionCount bytes) 64)) .0 (d .1) in
-      let f = (and-both (leb 1 (factCount bytes)) (leb (factCount bytes) 64)) .0 (e .0) in
-      (leb-true _ _ (f .1), leb-true _ _ (e .1), leb-true _ _ (c .1), leb-true _ _ (b .1))
+  pub head-fine : headVerdict bytes ≡ Fine → FineHead bytes
+  unfolding headVerdict
+  head-fine h = record {
+    whole = leb-true 4 (length bytes) (tests .0);
+    some-facts = counts .0;
+    few-facts = counts .1;
+    few-actions = counts .2;
+    few-constraints = leb-true _ 8 (tests .2);
+    few-hints = leb-true _ 8 (tests .3);
+  }
+    where
+      tests : (leb 4 (length bytes) ≡ true) × (countsInRange (factCount bytes) (actionCount bytes) ≡ true) × (leb (constraintCount bytes) 8 ≡ true)
+          × (leb (hintCount bytes) 8 ≡ true)
+      tests = four-true _ _ _ _ ((unless-fine _ 1 0) .0 h)
+
+      counts : (1 ≤ factCount bytes) × (factCount bytes ≤ 64) × (actionCount bytes ≤ 64)
+      counts = counts-fine (factCount bytes) (actionCount bytes) (tests .1)
 
   -- An accepted set has no bit 64 or above.
   set-lt : factCount bytes ≤ 64 → (o : ℕ) → setVerdict bytes o ≡ Fine → numberAt 8 bytes o < 2 ^ 64
   unfolding setVerdict
   set-lt v o h = lt-of-lt-of-le (ltb-true (numberAt 8 bytes o) (2 ^ factCount bytes) ((unless-fine _ 3 o) .0 h)) (pow-mono v)
 
-  -- The formula of an accepted section has at most 6 carried parts.
-  formula-few : (o i : ℕ) → formulaVerdict o (formulaIn bytes i) ≡ Fine → length (partsOf (formulaAt bytes i)) ≤ 6
+  -- A section that passes holds its formula, which has at most 6 carried parts.
+  pub section-fine : (o i : ℕ) → formulaVerdict o (formulaIn bytes i) ≡ Fine
+      → ((n : ℕ) × (formulaIn bytes i ≡ formula (formulaAt bytes i) n)) × (length (partsOf (formulaAt bytes i)) ≤ 6)
   unfolding formulaVerdict formulaAt
-  formula-few o i h = go (formulaIn bytes i) refl
+  section-fine o i h = go (formulaIn bytes i) refl
     where
-      go : (x : Parsed) → formulaIn bytes i ≡ x → length (partsOf (formulaAt bytes i)) ≤ 6
-      go (formula φ n) e = rw (e, formulaAt) (parts-few o (partsOf φ) (rw (e, formulaVerdict) at h))
+      go : (x : Parsed) → formulaIn bytes i ≡ x
+          → ((n : ℕ) × (formulaIn bytes i ≡ formula (formulaAt bytes i) n)) × (length (partsOf (formulaAt bytes i)) ≤ 6)
+      go (formula φ n) e =
+          let a : formulaAt bytes i ≡ φ = rw (e, formulaAt) in
+          ((n, e ∙ ap (λ (x : Formula). formula x n) (sym a)), rw a (parts-few o (partsOf φ) (rw (e, formulaVerdict) at h)))
       go (wrong p) e = absurd (bad-not-fine (rw (e, formulaVerdict) at h))
 
   -- The facts that an accepted action adds are below 64.
@@ -103,30 +142,40 @@ module _ (bytes : List ℕ) where
           let e : length list ≤ i = rw length-listOf (omega arith) in
           rw (List·getD-eq-default list noAction e) (omega arith)
 
+  -- The checks of an accepted job, one after the other.
+  pub accepted-checks : jobVerdict bytes ≡ Fine
+      → (headVerdict bytes ≡ Fine) × (pairsVerdict bytes ≡ Fine) × (taskVerdict bytes ≡ Fine) × (formulasVerdict bytes ≡ Fine)
+  unfolding jobVerdict
+  accepted-checks h =
+      let p = (orElse-fine (headVerdict bytes) _) .0 h in
+      let q = (orElse-fine (pairsVerdict bytes) _) .0 (p .1) in
+      let r = (orElse-fine (taskVerdict bytes) (formulasVerdict bytes)) .0 (q .1) in
+      (p .0, q .0, r .0, r .1)
+
+  -- Each formula of an accepted job passes.
+  pub each-formula : jobVerdict bytes ≡ Fine → (i : ℕ) → i < constraintCount bytes + hintCount bytes
+      → formulaVerdict (pairOffset bytes (1 + i)) (formulaIn bytes (1 + i)) ≡ Fine
+  unfolding formulasVerdict
+  each-formula h = (inTurn-fine (constraintCount bytes + hintCount bytes) _) .0 (accepted-checks h .3)
+
   -- A job that is accepted is a proper one.
   pub accepted-proper : jobVerdict bytes ≡ Fine → ProperJob (jobOf bytes)
-  unfolding jobVerdict jobOf formulasVerdict
+  unfolding jobOf taskVerdict
   accepted-proper h = record {
-    start-lt = set-lt (counts .0) (pairOffset bytes 0) (((orElse-fine (setVerdict bytes (pairOffset bytes 0)) _) .0 task) .0);
-    add-lt = add-below (counts .0) task;
-    few-actions = rw length-listOf (counts .1);
-    few-constraints = rw length-listOf (counts .2);
-    few-hints = rw length-listOf (counts .3);
+    start-lt = set-lt (head .few-facts) (pairOffset bytes 0) (((orElse-fine (setVerdict bytes (pairOffset bytes 0)) _) .0 task) .0);
+    add-lt = add-below (head .few-facts) task;
+    few-actions = rw length-listOf (head .few-actions);
+    few-constraints = rw length-listOf (head .few-constraints);
+    few-hints = rw length-listOf (head .few-hints);
     constraint-parts = all-listOf _ _ (constraintCount bytes) (λ i l. few i (omega arith));
     hint-parts = all-listOf _ _ (hintCount bytes) (λ i l. rw add-assoc (few (constraintCount bytes + i) (omega arith)));
   }
     where
-      head : (headVerdict bytes ≡ Fine) × (orElse (pairsVerdict bytes) (orElse (taskVerdict bytes) (formulasVerdict bytes)) ≡ Fine)
-      head = (orElse-fine (headVerdict bytes) _) .0 h
-
-      counts : (factCount bytes ≤ 64) × (actionCount bytes ≤ 64) × (constraintCount bytes ≤ 8) × (hintCount bytes ≤ 8)
-      counts = head-counts (head .0)
-
-      rest : (taskVerdict bytes ≡ Fine) × (formulasVerdict bytes ≡ Fine)
-      rest = (orElse-fine (taskVerdict bytes) (formulasVerdict bytes)) .0 (((orElse-fine (pairsVerdict bytes) _) .0 (head .1)) .1)
+      head : FineHead bytes
+      head = head-fine (accepted-checks h .0)
 
       task : taskVerdict bytes ≡ Fine
-      task = rest .0
+      task = accepted-checks h .2
 
       few : (i : ℕ) → i < constraintCount bytes + hintCount bytes → length (partsOf (formulaAt bytes (1 + i))) ≤ 6
-      few i l = formula-few (pairOffset bytes (1 + i)) (1 + i) ((inTurn-fine _ _) .0 (rest .1) i l)
+      few i l = section-fine (pairOffset bytes (1 + i)) (1 + i) (each-formula h i l) .1

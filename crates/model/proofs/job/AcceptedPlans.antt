@@ -8,11 +8,11 @@ use Rattle.model.specs.declared.Verdict.the-variants.{Fine}
 use Rattle.model.specs.job.Job.{Job}
 use Rattle.model.specs.job.Layout.{jobOf}
 use Rattle.model.specs.job.Decoding.{jobVerdict}
-use Rattle.model.specs.task.Plan.{allowed, costOf, Best}
+use Rattle.model.specs.task.Plan.{allowed, costOf, Best, MeetsHints}
 use Rattle.model.specs.exploration.Equations.{plan, no-plan}
 use Rattle.model.specs.search.JobSystem.{solveJob}
 use Rattle.model.proofs.job.Accepted.{ProperJob, accepted-proper}
-use Rattle.model.proofs.job.BestPlan.{MeetsHints, no-hints, plan-allowed, plan-best, no-plan-exactly, best-is-plan, answer-numbers, no-hints-12}
+use Rattle.model.proofs.job.BestPlan.{no-hints, plan-allowed, plan-best, no-plan-exactly, best-is-plan, answer-numbers, no-hints-12}
 
 pub record AnsweredRight (j : Job) : Type 0 where
   -- every plan is allowed, and its cost is summed from its actions
@@ -28,7 +28,7 @@ pub record AnsweredRight (j : Job) : Type 0 where
   pub numbers : {n : ℕ} → solveJob j ≡ no-plan n → (n ≡ 11) ⊎ (n ≡ 12)
   pub without-hints-12 : j .hints ≡ [] → {n : ℕ} → solveJob j ≡ no-plan n → n ≡ 12
 
--- Every proper job is answered right,
+-- Every proper job is answered right.
 pub proper-right : (j : Job) → ProperJob j → AnsweredRight j
 proper-right j proper = record {
   is-allowed = plan-allowed j proper;
@@ -40,6 +40,6 @@ proper-right j proper = record {
   without-hints-12 = no-hints-12 j proper;
 }
 
--- so every accepted job is.
+-- Every accepted job is answered right.
 pub accepted-right : (bytes : List ℕ) → jobVerdict bytes ≡ Fine → AnsweredRight (jobOf bytes)
 accepted-right bytes fine = proper-right (jobOf bytes) (accepted-proper bytes fine)

@@ -9,15 +9,15 @@ use mathlib.Core.List.{List, [], _∷_}
 use lib.ListN.{length}
 use Rattle.model.specs.logic.Truth.{allHold}
 use Rattle.model.specs.job.Job.{Job}
-use Rattle.model.specs.task.Plan.{allowed, meetsHints, costOf, Worse, Best}
+use Rattle.model.specs.task.Plan.{allowed, meetsHints, costOf, Worse, Best, MeetsHints}
 use Rattle.model.specs.exploration.Key.{Key, Le, earlier, First}
 use Rattle.model.specs.exploration.System.{System}
 use Rattle.model.specs.exploration.Equations.{unbounded, Answer, plan, no-plan, Entries, Explores, Plan, NoGoal, SomeCut, Answers, with-plan, some-cut, none-cut}
-use Rattle.model.specs.exploration.Explore.{reached}
+use Rattle.model.specs.exploration.Explore.{Of, reached}
 use Rattle.model.specs.search.Node.{someDead, sameNumbers}
 use Rattle.model.specs.search.JobSystem.{systemOf, solveJob}
 use Rattle.model.proofs.exploration.KeyLaws.{earlier-irrefl, earlier-trans}
-use Rattle.model.proofs.exploration.Solves.{Of, reached-solves}
+use Rattle.model.proofs.exploration.Solves.{reached-solves}
 use Rattle.model.proofs.exploration.Answered.{solve-answers}
 use Rattle.model.proofs.exploration.Paths.{path-run}
 use Rattle.model.proofs.exploration.Optimality.{Kept, best-plan, no-goal-run}
@@ -48,12 +48,8 @@ none-dead [] l = refl
 none-dead (r ∷ h) l = absurd (omega arith)
 
 module _ (j : Job) where
-  -- "whose every allowed plan of least cost meets all its hints"
-  abbrev pub MeetsHints : Type 0
-  MeetsHints = (p : List ℕ) → allowed j p ≡ true → ((q : List ℕ) → allowed j q ≡ true → costOf j p ≤ costOf j q) → meetsHints j p ≡ true
-
-  -- "A job without hints" is one of these.
-  pub no-hints : j .hints ≡ [] → MeetsHints
+  -- "A job without hints" is one whose plans of least cost meet all its hints.
+  pub no-hints : j .hints ≡ [] → MeetsHints j
   unfolding meetsHints allHold
   no-hints e p a l = rw e refl
 
@@ -114,7 +110,7 @@ module _ (j : Job) where
     answers e = subst (λ (z : Answer). Answers (systemOf j) entries z) e (solve-answers (systemOf j) (job-laws j) (job-finite j proper))
 
     -- In such a job the runs of least cost meet the hint residuals from the start on.
-    kept : MeetsHints → Kept (systemOf j) (job-hints j proper)
+    kept : MeetsHints j → Kept (systemOf j) (job-hints j proper)
     kept meet p k r least m s =
         let a = run-allowed j proper p k r in
         meets-start j proper m p s
@@ -132,7 +128,7 @@ module _ (j : Job) where
         (a .0, sym (ap (λ (z : Key). z .cost) (a .1)) ∙ y .costIs)
 
     -- The plan of such a job is the best one.
-    pub plan-best : MeetsHints → {c : ℕ} {p : List ℕ} → solveJob j ≡ plan c p → Best j p
+    pub plan-best : MeetsHints j → {c : ℕ} {p : List ℕ} → solveJob j ≡ plan c p → Best j p
     plan-best meet {c} {p} e = record { isAllowed = own .0; against = λ q a other. first-worse p q ((before q a) .0) ((before q a) .1) other }
       where
         y : Plan (systemOf j) entries c p
@@ -147,12 +143,12 @@ module _ (j : Job) where
             (best-plan (systemOf j) (job-laws j) (job-hints j proper) explored (kept meet) y q (keyOf j q) (allowed-run j proper q a))
 
     -- Where such a job has no plan, none is allowed.
-    pub none-allowed : MeetsHints → {n : ℕ} → solveJob j ≡ no-plan n → (p : List ℕ) → allowed j p ≡ true → ⊥
+    pub none-allowed : MeetsHints j → {n : ℕ} → solveJob j ≡ no-plan n → (p : List ℕ) → allowed j p ≡ true → ⊥
     none-allowed meet e p a =
         no-goal-run (systemOf j) (job-laws j) (job-hints j proper) explored (kept meet) (no-goal-of (systemOf j) entries (answers e)) p (keyOf j p) (allowed-run j proper p a)
 
     -- "and has none exactly if none is allowed"
-    pub no-plan-exactly : MeetsHints → ((n : ℕ) × (solveJob j ≡ no-plan n)) ↔ ((p : List ℕ) → allowed j p ≡ true → ⊥)
+    pub no-plan-exactly : MeetsHints j → ((n : ℕ) × (solveJob j ≡ no-plan n)) ↔ ((p : List ℕ) → allowed j p ≡ true → ⊥)
     no-plan-exactly meet = (λ h. none-allowed meet (h .1), go (solveJob j) refl)
       where
         go : (a : Answer) → solveJob j ≡ a → ((p : List ℕ) → allowed j p ≡ true → ⊥) → (n : ℕ) × (solveJob j ≡ no-plan n)
@@ -160,7 +156,7 @@ module _ (j : Job) where
         go (no-plan n) e none = (n, e)
 
     -- The best plan is the one answered, with its cost.
-    pub best-is-plan : MeetsHints → (p : List ℕ) → Best j p → solveJob j ≡ plan (costOf j p) p
+    pub best-is-plan : MeetsHints j → (p : List ℕ) → Best j p → solveJob j ≡ plan (costOf j p) p
     best-is-plan meet p b = go (solveJob j) refl
       where
         go : (a : Answer) → solveJob j ≡ a → solveJob j ≡ plan (costOf j p) p

@@ -127,7 +127,7 @@ module _ (v a : ℕ) (s : List ℕ) where
         (subst (λ (m : ℕ). Bytes s (at + 1 + m) (encode ψ)) (length-encode φ) (bytes-right s (encode φ) (encode ψ) (at + 1) (h .2))),
   )
 
-  -- and its bytes where it does
+  -- where a formula stands, its bytes are in the section
   stands-bytes : (φ : Formula) (at : ℕ) → Stands v a s φ at → Bytes s at (encode φ)
   unfolding encode
   stands-bytes (constant c) at h = (h .0, h .1, tt)
@@ -145,7 +145,7 @@ module _ (v a : ℕ) (s : List ℕ) where
   pub parsed-encode : (at : ℕ) (φ : Formula) (n : ℕ) → parsed v a s at ≡ formula φ n → take (size φ) (drop at s) ≡ encode φ
   parsed-encode at φ n e = rw (← length-encode φ) (bytes-take s (encode φ) at (stands-bytes φ at (parsed-stands v a s at φ n e)))
 
-  -- and so for a whole section
+  -- a section that holds a formula is the encoding of it
   pub section-encode : (φ : Formula) (n : ℕ) → section v a s ≡ formula φ n → s ≡ encode φ
   section-encode φ n e =
       let x = section-from v a s φ n e in

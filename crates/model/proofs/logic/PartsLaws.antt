@@ -52,7 +52,7 @@ module _ (s : ℕ → Bool) (r : List World) where
   pub agree-left : (φ : Formula) (n at : ℕ) (qs : List Part) → Agree n (parts φ n at ++ qs) → Agree n (parts φ n at)
   agree-left φ n at qs h = agree-split n (parts φ n at) qs h .0
 
-  -- and the second one's follow, numbered on
+  -- of two operands, the second one's parts follow, numbered on
   pub agree-right : (φ : Formula) (n at : ℕ) (qs : List Part) → Agree n (parts φ n at ++ qs) → Agree (n + count φ) qs
   agree-right φ n at qs h = subst (λ (m : ℕ). Agree (n + m) qs) (length-parts φ n at) (agree-split n (parts φ n at) qs h .1)
 

@@ -13,7 +13,7 @@ use Rattle.model.specs.Bits.{bit, digit, bitsOf}
 use Rattle.model.specs.logic.Formula.{Formula, constant, fact, action, unary, binary}
 use Rattle.model.specs.logic.Parts.{size, count, Part, parts, partsOf}
 use Rattle.model.specs.logic.Truth.{World, holds}
-use Rattle.model.specs.logic.Progression.{progress, residual, progressed, residualHolds, closing}
+use Rattle.model.specs.logic.Progression.{progress, residual, progressed, progressedBy, residualHolds, closing}
 use Rattle.model.proofs.bits.Bits.{bit-ofBits}
 use Rattle.model.proofs.bits.BitsOf.{bitsOf-lt}
 use Rattle.model.proofs.logic.PartsLaws.{Agree, Inside, inside, agree-left, agree-right, agree-next, agree-bits}
@@ -59,12 +59,6 @@ truths φ ws = bitsOf (λ (p : Part). holds (p .shape) ws) (partsOf φ)
 truths-agree : (φ : Formula) (ws : List World) → Agree (bit (truths φ ws)) ws 0 (parts φ 0 0)
 unfolding truths partsOf
 truths-agree φ ws = agree-bits ws (bit (truths φ ws)) (partsOf φ) 0 (λ i. ap (bit (truths φ ws)) (zero-add i))
-
--- a residual carried through worlds that are not the closing one
-unfoldable pub progressedBy : ℕ → List Part → ℕ → List World → ℕ
-unfolding progressed
-progressedBy n ps r [] = r
-progressedBy n ps r (w ∷ ws) = progressedBy n ps (progressed n ps r w) ws
 
 -- for a formula of at most n parts
 module _ (n : ℕ) (φ : Formula) (few : length (partsOf φ) ≤ n) where

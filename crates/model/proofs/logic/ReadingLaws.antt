@@ -104,7 +104,7 @@ module _ (v a : ℕ) (s : List ℕ) where
   parse-grows : (k at : ℕ) (φ : Formula) (n : ℕ) → parse v a s k at ≡ formula φ n → at < n
   parse-grows k at φ n e = omega (arith, parse-read k at φ n e .1, size-pos φ)
 
-  -- two readers that agree behind a position agree at the position
+  -- two readers that agree after a position agree at the position
   module _ (rec rec′ : ℕ → Parsed) (up : (m : ℕ) (φ : Formula) (n : ℕ) → rec m ≡ formula φ n → m < n) where
     operands-same : (c : Code) (at : ℕ) → ((m : ℕ) → at < m → rec m ≡ rec′ m) → operands v a s c rec at ≡ operands v a s c rec′ at
     unfolding operands andThen
@@ -165,12 +165,12 @@ module _ (v a : ℕ) (s : List ℕ) where
   unfolding parsed
   parsed-stands at φ n e = parse-read (length s - at) at φ n e .0
 
-  -- the position behind a formula is as many bytes on as it has
+  -- the position after a formula is as many bytes on as it has
   pub parsed-size : (at : ℕ) (φ : Formula) (n : ℕ) → parsed v a s at ≡ formula φ n → n ≡ at + size φ
   unfolding parsed
   parsed-size at φ n e = parse-read (length s - at) at φ n e .1
 
-  -- a formula ends behind the position where it starts
+  -- a formula ends after the position where it starts
   pub parsed-grows : (at : ℕ) (φ : Formula) (n : ℕ) → parsed v a s at ≡ formula φ n → at < n
   parsed-grows at φ n e = omega (arith, parsed-size at φ n e, size-pos φ)
 
@@ -222,7 +222,7 @@ module _ (v a : ℕ) (s : List ℕ) where
   unfolding section
   section-from φ n e = whole-from (parsed v a s 0) φ n e
 
-  -- and a formula that is read so is what the section holds
+  -- a formula that is read from the first byte to the last is what the section holds
   pub section-is : (φ : Formula) (n : ℕ) → parsed v a s 0 ≡ formula φ n → n ≡ length s → section v a s ≡ formula φ n
   unfolding section whole
   section-is φ n e l = ap (whole v a s) e ∙ rw (eq-eqb n (length s) l)

@@ -10,16 +10,15 @@ use Rattle.model.specs.Bits.{bit}
 use Rattle.model.specs.logic.Formula.{Formula}
 use Rattle.model.specs.logic.Parts.{Part}
 use Rattle.model.specs.logic.Truth.{World}
-use Rattle.model.specs.logic.Progression.{residual, progressed, dead, residualHolds, closing}
+use Rattle.model.specs.logic.Progression.{residual, progressed, progressedBy, dead, residualHolds, closing}
 use Rattle.model.proofs.bits.Bits.{ofBits-lt, bit-ofBits, bits-ext, bit-zero}
-use Rattle.model.proofs.logic.ProgressionLaws.{progressedBy}
 
 -- a residual is a table of 2 ^ n bits
 pub residual-lt : (n : ℕ) (φ : Formula) (w : World) → residual n φ w < 2 ^ (2 ^ n)
 unfolding residual
 residual-lt n φ w = ofBits-lt (2 ^ n) _
 
--- and so is what a residual leaves
+-- what a residual leaves is a table of 2 ^ n bits, too
 pub progressed-lt : (n : ℕ) (ps : List Part) (r : ℕ) (w : World) → progressed n ps r w < 2 ^ (2 ^ n)
 unfolding progressed
 progressed-lt n ps r w = ofBits-lt (2 ^ n) _

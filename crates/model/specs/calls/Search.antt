@@ -4,7 +4,7 @@ use Prim.Native.Nat.{ℕ, _/_, _<_}
 use mathlib.Core.Bool.{true, false}
 use mathlib.Core.Logic.{_⊎_}
 use mathlib.Core.List.{List, _++_}
-use lib.ListN.{length, drop, replicate}
+use lib.ListN.{length, take, drop, replicate}
 use lib.Dec.{leb}
 use Rattle.model.specs.declared.Verdict.the-variants.{Fine, Bad}
 use Rattle.model.specs.declared.Searched.{Searched}
@@ -21,6 +21,10 @@ pub record SearchEnd : Type 0 where
   pub result : Searched
   pub table : List ℕ
   pub plan : List ℕ
+
+-- an end, of its parts
+abbrev pub searchEnd : Searched → List ℕ → List ℕ → SearchEnd
+searchEnd r table buffer = record { result = r; table = table; plan = buffer }
 
 -- "A place has one fixed size, stated in docs/ and at most 256 bytes"; here it is a slot.
 unfoldable pub slotBytes : ℕ
@@ -68,3 +72,15 @@ Outnumbered job table = (jobVerdict job ≡ Fine) × (slotsIn table < reachedCou
 -- give with 10 left aside, and nothing else."
 abbrev pub SearchGives : List ℕ → List ℕ → List ℕ → SearchEnd → Type 0
 SearchGives job table buffer e = (e ≡ ruled job table buffer) ⊎ (Outnumbered job table × (e ≡ tooSmall table buffer))
+
+-- ---- the plan as a part of the lent buffer
+
+-- how many steps of a plan were written
+unfoldable pub stepsIn : Searched → ℕ
+stepsIn (Planned c n) = n
+stepsIn (Refused r) = 0
+
+-- "the plan as a part of the lent plan buffer, one byte a step, from its start", empty on a refusal
+unfoldable pub partOf : SearchEnd → List ℕ
+unfolding stepsIn
+partOf e = take (stepsIn (e .result)) (e .plan)

@@ -20,6 +20,10 @@ pub record WriteEnd : Type 0 where
   pub result : Rewritten
   pub buffer : List ℕ
 
+-- an end, of its parts
+abbrev pub writeEnd : Rewritten → List ℕ → WriteEnd
+writeEnd r out = record { result = r; buffer = out }
+
 -- "V and A outside their ranges give 1, length 0 or over 128 gives 2 (place 0), then 4 and 5 counted from the rule's start"
 unfoldable pub ruleVerdict : ℕ → ℕ → List ℕ → Verdict
 unfolding orElse unless countsInRange formulaVerdict section

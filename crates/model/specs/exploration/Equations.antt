@@ -49,10 +49,9 @@ module _ (S : System) where
     pub start : {n : S .Node} → Starts n → L n zeroKey (S .startHints)
     -- "and so is every pair to which an applicable step leads from a reached pair that is not cut"
     pub complete : {n : S .Node} {k : Key} {h : S .Hints} → Within B k → Arrives L n k h → (j : Key) × (g : S .Hints) × L n j g
-    -- No other node is reached, and "any other pair has the least key by which one step leads to it":
-    -- a key by which a step leads to it,
+    -- No other node is reached, and the key of "any other pair" is one "by which one step leads to it".
     pub arrived : {n : S .Node} {k : Key} {h : S .Hints} → L n k h → Starts n ⊎ ((g : S .Hints) × Arrives L n k g)
-    -- and none is less. "Dearer paths to it do not revive it."
+    -- It is "the least key by which one step leads to it", and "dearer paths to it do not revive it".
     pub least : {n : S .Node} {j k : Key} {g h : S .Hints} → L n j g → Arrives L n k h → Le j k
     -- "each of its hint remainders is the conjunction of those that all such steps of that least key bring"
     pub conjoined : {n : S .Node} {k : Key} {h : S .Hints} → (Starts n → ⊥) → L n k h → (s : S .Setting)

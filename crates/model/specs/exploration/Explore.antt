@@ -1,11 +1,12 @@
 -- The section "Pairs and hints" of document 01 as a function: the entries by rising key, each computed from the ones before.
+use mathlib.Core.Path.{_≡_}
 use Prim.Native.Nat.{ℕ, zero, suc}
 use mathlib.Core.Bool.{Bool, true, false, not, _&&_, _||_}
 use mathlib.Core.Option.{Option, none, some}
-use mathlib.Core.List.{List, [], _∷_, _++_}
+use mathlib.Core.List.{List, [], _∷_, _++_, List·Memᴰ}
 use Rattle.model.specs.exploration.Key.{Key, zeroKey, extend, less, sameKey, earlier, firstOf}
 use Rattle.model.specs.exploration.System.{System}
-use Rattle.model.specs.exploration.Equations.{Answer, plan, no-plan}
+use Rattle.model.specs.exploration.Equations.{Answer, plan, no-plan, Entries}
 
 -- a node with its key, its hint residuals and the first path of that key
 pub record Entry (S : System) : Type 0 where
@@ -15,6 +16,10 @@ pub record Entry (S : System) : Type 0 where
   pub path : List ℕ
 
 module _ (S : System) where
+  -- the entries of a list, as a set of the kind that the equations speak of
+  abbrev pub Of : List (Entry S) → Entries S
+  Of M n k h = (e : Entry S) × List·Memᴰ e M × (e .node ≡ n) × (e .key ≡ k) × (e .hints ≡ h)
+
   abbrev pub isCut : Entry S → Bool
   isCut e = S .cut (e .hints)
 

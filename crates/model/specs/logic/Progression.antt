@@ -42,6 +42,12 @@ unfoldable pub progressed : ℕ → List Part → ℕ → World → ℕ
 unfolding ofBits progress bit bitsOf
 progressed n ps r w = ofBits (2 ^ n) (λ k. bit r (bitsOf (λ (p : Part). progress (p .shape) (p .first) w (bit k)) ps))
 
+-- what is left of a residual after worlds, none of them the closing one
+unfoldable pub progressedBy : ℕ → List Part → ℕ → List World → ℕ
+unfolding progressed
+progressedBy n ps r [] = r
+progressedBy n ps r (w ∷ ws) = progressedBy n ps (progressed n ps r w) ws
+
 -- "a remainder is dead if all give false"
 unfoldable pub dead : ℕ → Bool
 dead r = eqb r 0

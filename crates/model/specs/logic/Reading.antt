@@ -7,7 +7,7 @@ use Rattle.model.specs.declared.Code.{Code}
 use Rattle.model.specs.declared.Code.the-variants.{Leaf, Fact, Action, One, Two, Unknown}
 use Rattle.model.specs.logic.Formula.{Formula, constant, fact, action, unary, binary, choose, codeOf}
 
--- a formula and the position behind it, or the position of the first wrong byte; where the bytes end too early, that is the section's end
+-- a formula and the position after it, or the position of the first wrong byte; where the bytes end too early, that is the section's end
 pub data Parsed : Type 0 where
   formula : Formula → ℕ → Parsed
   wrong : ℕ → Parsed
@@ -27,7 +27,7 @@ module _ (v a : ℕ) (s : List ℕ) where
   numbered f bound at =
       choose (ltb at (length s)) (choose (ltb (getD s at 0) bound) (formula (f (getD s at 0)) (at + 1)) (wrong at)) (wrong (length s))
 
-  -- what stands behind a code at a position, where rec reads the operands
+  -- what stands after a code at a position, where rec reads the operands
   unfoldable pub operands : Code → (ℕ → Parsed) → ℕ → Parsed
   unfolding then andThen numbered
   operands (Leaf c) rec at = formula (constant c) (at + 1)
@@ -52,7 +52,7 @@ module _ (v a : ℕ) (s : List ℕ) where
   unfolding parse
   parsed at = parse (length s - at) at
 
-  -- bytes behind the formula are wrong from the first on
+  -- bytes after the formula are wrong from the first on
   unfoldable pub whole : Parsed → Parsed
   whole (formula φ n) = choose (eqb n (length s)) (formula φ n) (wrong n)
   whole (wrong p) = wrong p

@@ -1,6 +1,6 @@
 -- Action sequences: document 01 calls them step lists.
 use mathlib.Core.Path.{_≡_}
-use Prim.Native.Nat.{ℕ, _+_, _<_}
+use Prim.Native.Nat.{ℕ, _+_, _≤_, _<_}
 use mathlib.Core.Bool.{Bool, true, false, _&&_}
 use mathlib.Core.Option.{none, some}
 use mathlib.Core.Logic.{_⊎_}
@@ -19,7 +19,7 @@ module _ (j : Job) where
   stateAfter s [] = s
   stateAfter s (i ∷ is) = stateAfter (after (actionOf j i) s) is
 
-  -- the worlds behind the one of state s: "for each step, the facts after it and that step; last, the closing world, which repeats the
+  -- the worlds after the one of state s: "for each step, the facts after it and that step; last, the closing world, which repeats the
   -- final facts with no step"
   unfoldable pub worldsAfter : ℕ → List ℕ → List World
   unfolding after actionOf
@@ -67,3 +67,7 @@ module _ (j : Job) where
   pub record Best (p : List ℕ) : Type 0 where
     pub isAllowed : allowed p ≡ true
     pub against : (q : List ℕ) → allowed q ≡ true → (p ≡ q → ⊥) → Worse p q
+
+  -- "one whose every allowed plan of least cost meets all its hints"
+  abbrev pub MeetsHints : Type 0
+  MeetsHints = (p : List ℕ) → allowed p ≡ true → ((q : List ℕ) → allowed q ≡ true → costOf p ≤ costOf q) → meetsHints p ≡ true

@@ -1,4 +1,4 @@
--- `residuals_of` writes the entries behind the first out.
+-- `residuals_of` writes the entries after the first out.
 use native.Mathlib.Omega.{arith}
 use borrow.Author.Needs.{needs}
 use Rattle.progression.proofs.Padding.{row}

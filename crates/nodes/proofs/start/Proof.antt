@@ -1,4 +1,4 @@
--- `start` leaves a residual for each constraint, and 0 behind the last.
+-- `start` leaves a residual for each constraint, and 0 after the last.
 use mathlib.Core.Path.{_∙_}
 use borrow.Author.Needs.{needs}
 use Rattle.model.specs.search.JobSystem.{startNode}

@@ -1,4 +1,4 @@
--- `start_hints` leaves a residual for each hint, and 0 behind the last.
+-- `start_hints` leaves a residual for each hint, and 0 after the last.
 use mathlib.Core.Path.{_∙_}
 use borrow.Author.Needs.{needs}
 use Rattle.model.specs.search.JobSystem.{startHints}

@@ -12,7 +12,7 @@ use Rattle.normal.proofs.measure.Reads as measure-reads
 use Rattle.normal.proofs.rule_verdict.Reads as rule-verdict-reads
 use Rattle.normal.proofs.write.Reads as write-reads
 
--- the place behind a verdict of no refusal
+-- the place after a verdict of no refusal
 abbrev Passed : Type 0
 Passed =
     lts.After-enum-told

@@ -1,4 +1,4 @@
--- `hints_first` takes the sections behind the constraints.
+-- `hints_first` takes the sections after the constraints.
 use native.Mathlib.Omega.{arith}
 use mathlib.Core.Path.{_≡_}
 use Rattle.job.proofs.Accepted.{accepted-laid}

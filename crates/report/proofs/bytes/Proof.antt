@@ -1,9 +1,6 @@
 -- The loop over the bytes of a buffer ends: what is left of it falls.
 use Prim.Native.Nat.{_-_}
-use native.Mathlib.Omega.{arith}
-use lib.ListN.{length}
 use borrow.Author.Needs.{needs}
-use borrow.Author.Tests.{ltb-true}
 use Rattle.report.proofs.bytes.Statement.{statement}
 use Rattle.report.proofs.bytes.Tie as tie
 

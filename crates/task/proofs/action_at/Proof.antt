@@ -1,4 +1,4 @@
--- `action_at` meets its contract: a walk of its MIR, by hand, after the kit's Denote/Examples/Slices/At.antt. The place of `actions[i]` is 32 bytes
+-- `action_at` meets its contract: a walk of its MIR, by hand, after the toolchain's Denote/Examples/Slices/At.antt. The place of `actions[i]` is 32 bytes
 -- past the pointer for each action before it; the slice is looked into, action i is taken out of the row, read, and put back.
 use mathlib.Core.Path.{_≡_, refl, sym}
 use Prim.Native.Nat.{ℕ, _*_, _<_, _^_}

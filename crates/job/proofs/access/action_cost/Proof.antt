@@ -1,4 +1,4 @@
--- `action_cost` reads the number behind an action's sets.
+-- `action_cost` reads the number after an action's sets.
 use borrow.Author.Needs.{needs}
 use Rattle.model.specs.job.Layout.{actionAt}
 use Rattle.job.proofs.access.action_cost.Statement.{statement}

@@ -10,7 +10,7 @@ use Rattle.model.specs.job.Decoding.{countsInRange}
 use Rattle.job.proofs.head.head_fits.Statement.{statement}
 use Rattle.job.proofs.head.head_fits.Tie as tie
 
--- behind the first two tests the answer is that of the second, with what is still to be tested
+-- after the first two tests the answer is that of the second, with what is still to be tested
 tested : (c : tie.After-counts-in-range)
     → (let b = c .before .before .before .before .before .args .bytes .now in
     leb 4 (length b) && countsInRange (factCount b) (actionCount b) ≡ c .counts-in-range .result)

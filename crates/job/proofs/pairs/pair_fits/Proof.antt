@@ -11,7 +11,7 @@ use Rattle.model.specs.job.Decoding.{sectionStart, rightLength}
 use Rattle.job.proofs.pairs.pair_fits.Statement.{statement}
 use Rattle.job.proofs.pairs.pair_fits.Tie as tie
 
--- behind the first three tests the answer is that of the third, with what is still to be tested
+-- after the first three tests the answer is that of the third, with what is still to be tested
 tested : (c : tie.After-right-length)
     → (let a = c .before .before .before .before .before .before .before .args in let b = a .bytes .now in
     leb (8 + 4 * a .i) (length b) && eqb (pairOffset b (a .i)) (sectionStart b (a .i)) && rightLength b (a .i) (pairLength b (a .i)) ≡ c .right-length .result)

@@ -1,4 +1,4 @@
--- `section_start` begins the first section behind the pairs and any other behind the one before.
+-- `section_start` begins the first section after the pairs and any other after the one before.
 use borrow.Author.Needs.{needs}
 use Rattle.job.proofs.PairLaws.{start-first, start-next}
 use Rattle.job.proofs.pairs.section_start.Statement.{statement}

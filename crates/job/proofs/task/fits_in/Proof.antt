@@ -1,4 +1,4 @@
--- `fits_in`: 64 bits hold every number, and below that nothing is left of one that fits behind n bits.
+-- `fits_in`: 64 bits hold every number, and for fewer nothing is left above n bits of one that fits.
 use borrow.Author.Needs.{needs}
 use Rattle.job.proofs.SetLaws.{none-above}
 use Rattle.job.proofs.SetLaws.{all-fit}

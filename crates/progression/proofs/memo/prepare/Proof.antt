@@ -1,5 +1,4 @@
 -- What the formulas before section i name is written down: the invariant.
-use borrow.Author.Needs.{needs}
 use native.Mathlib.Omega.{arith}
 use mathlib.Core.Path.{_≡_, refl}
 use Prim.Native.Nat.{_-_, _≤_}

@@ -7,8 +7,6 @@ use Rattle.progression.specs.Numbers.{AfterIn}
 use Rattle.progression.proofs.NumbersLaws.{one-more, none-more}
 use Rattle.progression.proofs.numbers.after.Statement.{statement}
 use Rattle.progression.proofs.numbers.after.Tie as tie
-use Rattle.progression.proofs.numbers.after.Reads as reads
-use Rattle.progression.proofs.numbers.after.Lts as lts
 
 abbrev Inv-loop : tie.InvT-loop
 Inv-loop s code found₀ i₀ found i =

@@ -1,6 +1,6 @@
 -- Dead by the first test, true at every setting by the second.
 use mathlib.Core.Path.{sym, ap, _∙_}
-use mathlib.Core.Bool.{Bool, true, _||_}
+use mathlib.Core.Bool.{Bool, _||_}
 use lib.Dec.{eqb}
 use borrow.Author.Tests.{eq-eqb, ne-eqb}
 use Rattle.model.specs.logic.Progression.{dead, allTrue, settled}

@@ -1,4 +1,4 @@
--- What is known in `evaluate` behind the calls that every arm needs: what stands at the position by its code, and the numbers of the parts in it.
+-- What is known in `evaluate` after the calls that every arm needs: what stands at the position by its code, and the numbers of the parts in it.
 use mathlib.Core.Path.{_≡_, refl, sym, ap, ap₂, _∙_, subst, subst⁻¹}
 use mathlib.Core.Bool.{Bool, true, _||_}
 use mathlib.Core.List.{List}
@@ -74,7 +74,7 @@ module _ (t : ℕ) where
     with-two-reads.Learnt,
   )
 
-  -- the place behind `code_of`
+  -- the place after `code_of`
   abbrev pub Coded : Type 0
   Coded = evaluate-lts.After-code-of claims (evaluate-at t) evaluate.Post
 
@@ -88,13 +88,13 @@ module _ (t : ℕ) where
       let d = c .before .before .before in
       few-inside 64 64 (d .args .s .now) (d .args .under) (d .args .n) (d .args .at) (d .pre .1)
 
-  -- which is what was read there
+  -- what stands at the position is what is read there
   told : (c : Coded) (k : Code) → c .code-of .result ≡ k → (let a = c .before .before .before .args in parsed 64 64 (a .s .now) (a .at)) ≡ node c k
   told c k e =
       let a = c .before .before .before .args in
       by-code 64 64 (a .s .now) (a .at) k (inside c) (sym (c .code-of .ensures) ∙ e)
 
-  -- and has few parts
+  -- what stands at the position has few parts
   pub few : (c : Coded) (k : Code) → c .code-of .result ≡ k → (let a = c .before .before .before .args in Few (node c k) (a .under) (a .n))
   few c k e =
       let d = c .before .before .before in
@@ -107,7 +107,7 @@ module _ (t : ℕ) where
       let k : Code = c .code-of .result in
       inner-le 64 64 (a .s .now) (a .under) (a .n) k (parsed 64 64 (a .s .now)) (a .at) (few c k refl)
 
-  -- the place behind the calls that every arm needs
+  -- the place after the calls that every arm needs
   abbrev pub Here : Type 0
   Here = evaluate-lts.After-inner-number claims (evaluate-at t) evaluate.Post
 
@@ -143,7 +143,7 @@ module _ (t : ℕ) where
       let a = coded h .before .before .before .args in
       subst⁻¹ (λ (q : Parsed). Answered (a .m .closing) (worldOf (a .m)) (a .under) (a .n) (a .tables .now) q r x) (told (coded h) k e ∙ f) d
 
-  -- the number behind a fact's or an action's code is there and below 64
+  -- the number after a fact's or an action's code is there and below 64
   abbrev pub Number : Here → (ℕ → Formula) → Type 0
   Number h f =
       let a = coded h .before .before .before .args in

@@ -1,4 +1,4 @@
--- `choose` takes the better of a slot and the best behind it.
+-- `choose` takes the better of a slot and the best after it.
 use mathlib.Core.Path.{sym, _∙_}
 use Rattle.table.proofs.LookupLaws.{better-taken, better-first, better-behind, better-here}
 use borrow.Author.Needs.{needs}

@@ -1,0 +1,4 @@
+-- The three demands of the request, a record a demand and call, a field a clause. Each speaks of what a proved function gives back, by its contract.
+pub mod Demand1
+pub mod Demand2
+pub mod Demand3

@@ -1,0 +1,3 @@
+-- Laws of the three calls (specs/calls).
+pub mod RuleLaws
+pub mod Ways

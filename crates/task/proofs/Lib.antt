@@ -1,0 +1,3 @@
+-- Laws for the proofs of the functions, and for their callers.
+pub mod SetLaws
+pub mod Lent

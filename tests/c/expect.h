@@ -1,0 +1,99 @@
+/* What the tests in C share: job P of document 01, the planner's calls with their numbers together, and expectations that print what was got and what
+ * was expected. */
+#ifndef EXPECT_H
+#define EXPECT_H
+
+#include <stdio.h>
+#include <string.h>
+
+#include "dagzhimo.h"
+
+/* Bytes as two arguments, where they are and how many. */
+#define BYTES(...) (const uint8_t[]){__VA_ARGS__}, sizeof((const uint8_t[]){__VA_ARGS__})
+
+static _Atomic int failures;
+
+/* ---- calls */
+
+struct numbers {
+    uint64_t number, first, second;
+};
+
+static inline struct numbers search(const uint8_t *job, size_t job_len, uint8_t *table, size_t table_len, uint8_t *plan, size_t plan_len) {
+    uint64_t out[2] = {77, 77}, number = dagzhimo_search(job, job_len, table, table_len, plan, plan_len, out);
+    return (struct numbers){number, out[0], out[1]};
+}
+
+static inline struct numbers read_through(const uint8_t *job, size_t job_len, const uint8_t *steps, size_t steps_len) {
+    uint64_t out[2] = {77, 77}, number = dagzhimo_validate(job, job_len, steps, steps_len, out);
+    return (struct numbers){number, out[0], out[1]};
+}
+
+static inline struct numbers write_back(uint64_t facts, uint64_t steps, const uint8_t *rule, size_t rule_len, uint8_t *buffer, size_t buffer_len) {
+    uint64_t out[2] = {77, 77}, number = dagzhimo_write_back(facts, steps, rule, rule_len, buffer, buffer_len, out);
+    return (struct numbers){number, out[0], out[1]};
+}
+
+/* ---- expectations */
+
+static inline void expect(const char *what, struct numbers got, uint64_t number, uint64_t first, uint64_t second) {
+    if (got.number == number && got.first == first && got.second == second) return;
+    printf("%s: got %llu %llu %llu, expected %llu %llu %llu\n", what, (unsigned long long)got.number, (unsigned long long)got.first,
+           (unsigned long long)got.second, (unsigned long long)number, (unsigned long long)first, (unsigned long long)second);
+    failures++;
+}
+
+static inline void print_bytes(const char *word, const uint8_t *bytes, size_t length) {
+    printf(" %s", word);
+    for (size_t i = 0; i < length; i++) printf(" %02x", bytes[i]);
+}
+
+/* Printed up to the last byte that differs. */
+static inline void expect_bytes(const char *what, const uint8_t *got, const uint8_t *wanted, size_t length) {
+    while (length && got[length - 1] == wanted[length - 1]) length--;
+    if (!length) return;
+    printf("%s:", what);
+    print_bytes("got", got, length);
+    print_bytes("expected", wanted, length);
+    printf("\n");
+    failures++;
+}
+
+/* All bytes have one value; the first that has not is printed. */
+static inline void expect_all(const char *what, const uint8_t *got, size_t length, uint8_t value) {
+    for (size_t i = 0; i < length; i++)
+        if (got[i] != value) {
+            printf("%s: got %02x at byte %zu, expected %02x\n", what, got[i], i, value);
+            failures++;
+            return;
+        }
+}
+
+static inline int finish(const char *name) {
+    printf("%s from C: %s\n", name, failures ? "FAILED" : "ok");
+    return failures ? 1 : 0;
+}
+
+/* ---- job P: sand adds fact 0 (cost 5), lamp adds fact 1 (cost 2), pass needs both and adds fact 2 (cost 9) */
+
+enum { GOAL_NONE = 0, GOAL_SCANNED = 4, P_ROOM = 106 + 128 };
+
+enum as { PLAIN, AS_RULE, AS_HINT };
+
+/* Writes P with this goal and with one formula, or with none if it is PLAIN, and gives its length. */
+static inline size_t job_p(uint8_t *job, uint8_t goal, enum as as, const uint8_t *formula, size_t length) {
+    const uint8_t plain[8] = {3, 3, 0, 0, 8, 0, 94, 0};
+    const uint8_t more[12] = {3, 3, as == AS_RULE, as == AS_HINT, 12, 0, 94, 0, 106, 0, (uint8_t)length, 0};
+    uint8_t *task = job + (as == PLAIN ? sizeof plain : sizeof more);
+    memcpy(job, as == PLAIN ? plain : more, (size_t)(task - job));
+    memset(task, 0, 94);
+    task[8] = goal;
+    task[16 + 8] = 1, task[16 + 24] = 5;
+    task[42 + 8] = 2, task[42 + 24] = 2;
+    task[68] = 3, task[68 + 8] = 4, task[68 + 24] = 9;
+    if (as == PLAIN) return 102;
+    memcpy(job + 106, formula, length);
+    return 106 + length;
+}
+
+#endif
