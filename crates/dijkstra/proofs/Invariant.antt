@@ -8,12 +8,13 @@ use mathlib.Core.List.{[], _∷_, _++_}
 use mathlib.Core.Logic.{_⊎_, inl, inr, _↔_}
 use lib.ListN.{length, length-append}
 use Rattle.model.specs.exploration.Key.{Key, zeroKey, extend, Le, Lt, First}
-use Rattle.model.specs.exploration.System.{System}
+use Rattle.model.specs.exploration.System.{System, rankOf}
 use Rattle.model.specs.exploration.Explore.{Entry}
-use Rattle.model.proofs.exploration.KeyLaws.{le-refl, lt-le, not-below}
+use Rattle.model.proofs.exploration.KeyLaws.{le-refl, le-trans, lt-le, not-below, rank-step}
+use Rattle.model.proofs.exploration.Laws.{Laws}
 use Rattle.model.proofs.exploration.Arrivals.{To}
 use Rattle.model.proofs.exploration.Gather.{At}
-use Rattle.dijkstra.specs.Records.{Held, Table, pathOf}
+use Rattle.dijkstra.specs.Records.{Held, Table, rankIn, pathOf}
 use Rattle.dijkstra.specs.Search.{pathBy}
 use Rattle.dijkstra.proofs.Slots.{Holds, holds-one}
 
@@ -62,11 +63,13 @@ module _ (S : System) where
     pub proper : (i : ℕ) (r : Held S) → Holds t i r → S .Proper (r .hints)
     -- every arrival is at a node of the table, whose key is not larger
     pub low : (x : Entry S) → P x → (i : ℕ) × (r : Held S) × Holds t i r × (r .node ≡ x .node) × Le (r .key) (x .key)
-    -- no open key is below a taken one
-    pub order : (i j : ℕ) (r q : Held S) → Holds t i r → Holds t j q → r .taken ≡ true → q .taken ≡ false → Le (r .key) (q .key)
-    -- no record taken is an uncut goal
-    pub barren : (i : ℕ) (r : Held S) → Holds t i r → r .taken ≡ true → S .cut (r .hints) ≡ false → S .goal (r .node) ≡ true → ⊥
+    -- no open rank is below a taken one
+    pub order : (i j : ℕ) (r q : Held S) → Holds t i r → Holds t j q → r .taken ≡ true → q .taken ≡ false → Le (rankIn S r) (rankIn S q)
     pub sent : (x : Entry S) → P x → Sent t x
+
+  -- No record taken is an uncut goal.
+  abbrev pub Barren : Table S → Type 0
+  Barren t = (i : ℕ) (r : Held S) → Holds t i r → r .taken ≡ true → S .cut (r .hints) ≡ false → S .goal (r .node) ≡ true → ⊥
 
   -- Taken records of t are in the same slots of u.
   abbrev pub Keeps : Table S → Table S → Type 0
@@ -101,6 +104,19 @@ module _ (S : System) where
     pub zero-slot : (i : ℕ) (r : Held S) → Holds t i r → r .key .steps ≡ 0 → i ≡ 0
     zero-slot zero r h e = refl
     zero-slot (suc i) r h e = let l = inv .linked (suc i) r h (λ z. omega arith) in absurd (omega (arith, linked-steps l))
+
+    -- No rank is below the start's.
+    pub start-least : Laws S → (n i : ℕ) (r : Held S) → Holds t i r → r .key .steps ≡ n → Le (rankOf S m0 zeroKey) (rankIn S r)
+    start-least laws zero i r h e =
+        let at0 : Holds t 0 r = subst (λ (z : ℕ). Holds t z r) (zero-slot i r h e) h in
+        let d : inv .begun .0 ≡ r = holds-one t 0 (inv .begun .1) at0 in
+        subst (λ (q : Held S). Le (rankOf S m0 zeroKey) (rankIn S q)) d
+        (subst (Le (rankOf S m0 zeroKey)) (λ z. rankOf S (sym (inv .begun .2 .0) z) (sym (inv .begun .2 .1) z)) (le-refl _))
+    start-least laws (suc n) i r h e =
+        let l = steps-linked i r h e in
+        let ih = start-least laws n (r .parent) (l .source) (l .held) (omega (arith, linked-steps l)) in
+        le-trans _ _ _ ih (subst (λ (k : Key). Le (rankIn S (l .source)) (rankOf S (r .node) k)) (sym (l .keyIs))
+        (lt-le _ _ (rank-step (l .source .key) (S .cost (r .action)) _ _ (laws .consistent (l .source .node) (r .node) (r .action) (l .inRange) (l .leads)))))
 
     -- A path has as many actions as its record's key says.
     pub path-length : (n i : ℕ) (r : Held S) → Holds t i r → r .key .steps ≡ n → length (pathOf S t n i) ≡ n
@@ -152,7 +168,6 @@ module _ (S : System) where
       proper = inv .proper;
       low = λ x q. low x (back x q);
       order = inv .order;
-      barren = inv .barren;
       sent = sent;
     }
       where

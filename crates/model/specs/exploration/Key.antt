@@ -18,6 +18,10 @@ zeroKey = record { cost = 0; steps = 0 }
 unfoldable pub extend : Key → ℕ → Key
 extend k c = record { cost = k .cost + c; steps = suc (k .steps) }
 
+-- the rank of a node that is reached by a key, where e is the estimate of what is left: cost plus estimate, then steps
+abbrev pub rank : Key → ℕ → Key
+rank k e = record { cost = k .cost + e; steps = k .steps }
+
 -- "keys compare in that order": cost, then steps
 abbrev pub Le : Key → Key → Type 0
 Le j k = (j .cost ≤ k .cost) × (j .cost ≡ k .cost → j .steps ≤ k .steps)

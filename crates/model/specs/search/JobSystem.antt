@@ -74,6 +74,7 @@ systemOf j = record {
   cost = λ i. actionOf j i .cost;
   step = nextNode j;
   goal = isGoal j;
+  estimate = λ n. 0;
   Hints = List ℕ;
   startHints = startHints j;
   carry = carryHints j;
