@@ -21,7 +21,7 @@ use Rattle.dijkstra.proofs.Finding.{find-none, find-some}
 use Rattle.dijkstra.proofs.Invariant.{Sent, inv-map}
 use Rattle.dijkstra.proofs.Sending.{Before, Expanding, source-is}
 use Rattle.dijkstra.proofs.Arriving.{closed-final}
-use Rattle.dijkstra.proofs.Following.{Grown, Went, new-went, less-went, larger-went, tied-went, newcomer}
+use Rattle.dijkstra.proofs.Following.{Followed, Went, new-went, less-went, larger-went, tied-went, newcomer}
 
 module _ (S : System) (laws : Laws S) (slots : ℕ) where
   module _ {m0 : S .Node} {t : Table S} {i : ℕ} {q : Held S} {c : ℕ} (x : Expanding S m0 t i q c) (b : c < S .actions) where
@@ -133,7 +133,7 @@ module _ (S : System) (laws : Laws S) (slots : ℕ) where
     expand-went {t} x zero b = record { expanding = x; keeps = λ s p k h. h; back = λ s p k h. h; room = λ l. l }
     expand-went {t} x (suc c) b = go (expand S slots t r i c) refl (expand-went x c (omega arith))
       where
-        next : (u : Table S) → Grown S laws slots m0 t i (take-it S r) c u → (f : Filled S)
+        next : (u : Table S) → Followed S laws slots m0 t i (take-it S r) c u → (f : Filled S)
             → Went S laws slots m0 u i (take-it S r) (suc c) f → Went S laws slots m0 t i (take-it S r) (suc c) f
         next u w (goes-on v) g = record {
           expanding = g .expanding;

@@ -39,7 +39,7 @@ module _ (S : System) (laws : Laws S) (slots : ℕ) where
     pub new : (s : ℕ) (r : Held S) → Holds table s r → S .same node (r .node) ≡ false
 
   -- The actions below c from slot i, which holds q, have made u of t: no slot was taken, and the table has not outgrown its slots.
-  pub record Grown (m0 : S .Node) (t : Table S) (i : ℕ) (q : Held S) (c : ℕ) (u : Table S) : Type 0 where
+  pub record Followed (m0 : S .Node) (t : Table S) (i : ℕ) (q : Held S) (c : ℕ) (u : Table S) : Type 0 where
     pub expanding : Expanding S m0 u i q c
     pub keeps : Keeps S t u
     pub back : Keeps S u t
@@ -47,12 +47,12 @@ module _ (S : System) (laws : Laws S) (slots : ℕ) where
 
   -- what the actions from t up to c come to
   abbrev pub Went : S .Node → Table S → ℕ → Held S → ℕ → Filled S → Type 0
-  Went m0 t i q c (goes-on u) = Grown m0 t i q c u
+  Went m0 t i q c (goes-on u) = Followed m0 t i q c u
   Went m0 t i q c full = Crowded m0 i q
 
   module _ {m0 : S .Node} {t : Table S} {i : ℕ} {q : Held S} {c : ℕ} (x : Expanding S m0 t i q c) (b : c < S .actions) where
     -- The next state of an expansion, from its invariant.
-    onwards : (u : Table S) → Keeps S t u → Keeps S u t → (length t ≤ slots → length u ≤ slots) → Inv S m0 u (Before S u i (suc c)) → Grown m0 t i q (suc c) u
+    onwards : (u : Table S) → Keeps S t u → Keeps S u t → (length t ≤ slots → length u ≤ slots) → Inv S m0 u (Before S u i (suc c)) → Followed m0 t i q (suc c) u
     onwards u keeps back room inv = record {
       expanding = record {
         inv = inv;

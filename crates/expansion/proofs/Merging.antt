@@ -31,11 +31,11 @@ module _ {job : List ℕ} {places n : ℕ} {t : List ℕ} {i : ℕ} {from : Slot
 
   key-kept : Reaches (heldIs job old .key) (record { cost = old .cost; steps = old .steps })
   unfolding heldIs
-  key-kept = record { is = refl; summed = old-sound .summed; short = old-narrow .1 }
+  key-kept = record { is = refl; summed = old-sound .summed; short = old-narrow .steps }
 
   -- the slot, by a parent and an action
   abbrev stored : List ℕ → ℕ → ℕ → Slot
-  stored hints p b = openSlot (old .node) hints (record { cost = old .cost; steps = old .steps }) p b (old .goal)
+  stored hints p b = openSlot (old .node) hints (record { cost = old .cost; steps = old .steps }) (old .estimate) p b (old .goal)
 
   module _ {g h hints : List ℕ} (carried : Carries (hintCount job) h g) (met : hints ≡ meetAll (old .hints) g) where
     abbrev merged : ℕ → ℕ → Held (sys job)
@@ -44,8 +44,8 @@ module _ {job : List ℕ} {places n : ℕ} {t : List ℕ} {i : ℕ} {from : Slot
     makes-merged : (p b : ℕ) {s : Slot} → s ≡ stored hints p b → p < 65536 → b < 256 → Makes job (merged p b) s
     unfolding heldIs
     makes-merged p b e l m =
-        opened-makes job (old .node) hints _ p b (old .goal) e key-kept
-        (met-carries (hintCount job) (old .hints) g met (old-sound .cleanHints) carried (few-hints job (x .running .accepted))) (old-sound .clean) (old-sound .marked) l m
+        opened-makes job (x .running .accepted) (old .node) hints _ (old .estimate) p b (old .goal) e key-kept
+        (met-carries (hintCount job) (old .hints) g met (old-sound .cleanHints) carried (few-hints job (x .running .accepted))) (old-sound .clean) (old-sound .marked) (old-sound .estimated) l m
 
     -- Where the new path comes first, the merged record has its parent and action.
     pub merged-new : {s : Slot} {b : Bool} → s ≡ stored hints i a → b ≡ orderBy (held t n) i a (old .parent) (old .action) → b ≡ true
@@ -61,4 +61,4 @@ module _ {job : List ℕ} {places n : ℕ} {t : List ℕ} {i : ℕ} {from : Slot
     unfolding heldIs
     merged-old e q o =
         rw (tied-old (sys job) (heldIn job n t) (heldIs job old) h i a (compared x ties ∙ sym q ∙ o))
-        (makes-merged (old .parent) (old .action) e (old-narrow .2) (old-narrow .3))
+        (makes-merged (old .parent) (old .action) e (old-narrow .parent) (old-narrow .action))

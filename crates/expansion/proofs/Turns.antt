@@ -109,8 +109,8 @@ module _ {job : List ℕ} {places n0 : ℕ} {t0 : List ℕ} {i : ℕ} {from : Sl
         (record {
           m0 = g .m0;
           running = grew-running w (g .running) d k;
-          expanding = x .0;
-          inside = held-is job m u i (x .0 .held) .0;
+          expanding = x .expanding;
+          inside = held-is job m u i (x .expanding .held) .0;
           upTo = l;
           followed = more ∙ e;
         })

@@ -23,9 +23,18 @@ use Rattle.held.specs.Held.{sys, heldIs, heldIn, Sound, SoundTo}
 use Rattle.held.specs.Running.{Running}
 
 -- an open slot of its parts
-abbrev pub openSlot : List ℕ → List ℕ → code.Key → ℕ → ℕ → Bool → Slot
-openSlot node hints key parent action goal =
-    record { node = node; hints = hints; cost = key .cost; steps = key .steps; parent = parent; action = action; taken = false; goal = goal }
+abbrev pub openSlot : List ℕ → List ℕ → code.Key → ℕ → ℕ → ℕ → Bool → Slot
+openSlot node hints key estimate parent action goal = record {
+  node = node;
+  hints = hints;
+  cost = key .cost;
+  steps = key .steps;
+  estimate = estimate;
+  parent = parent;
+  action = action;
+  taken = false;
+  goal = goal;
+}
 
 -- ---- the key of an arrival
 

@@ -32,14 +32,15 @@ fn hints_of(job: &[u8], work: &mut [u64], from: Slot, a: u8, node: [u64; 9]) -> 
 }
 
 // A slot of its parts, open.
-fn opened(node: [u64; 9], hints: [u64; 8], key: Key, parent: u64, action: u64, goal: bool) -> Slot
-    ensures { λ r. ⌜ r ≡ openSlot node hints key parent action goal ⌝ }
+fn opened(node: [u64; 9], hints: [u64; 8], key: Key, estimate: u64, parent: u64, action: u64, goal: bool) -> Slot
+    ensures { λ r. ⌜ r ≡ openSlot node hints key estimate parent action goal ⌝ }
 {
     Slot {
         node,
         hints,
         cost: key.cost,
         steps: key.steps,
+        estimate,
         parent,
         action,
         taken: false,
@@ -47,7 +48,7 @@ fn opened(node: [u64; 9], hints: [u64; 8], key: Key, parent: u64, action: u64, g
     }
 }
 
-// The slot of a new node.
+// The slot of a new node; for now every estimate is 0.
 pub fn fresh(job: &[u8], work: &mut [u64], i: usize, from: Slot, a: u8, node: [u64; 9]) -> Slot
     requires { ⌜ Extends (now job) from a × (i < 65536) × Clean (constraintCount (now job)) node × Workspace (now job) (now work) ⌝ }
     ensures { λ r. ⌜ Makes (now (job .entry)) (newcomer (now (job .entry)) i from a node node) r × Workspace (now (job .entry)) (now (work .exit)) ⌝ }
@@ -55,10 +56,10 @@ pub fn fresh(job: &[u8], work: &mut [u64], i: usize, from: Slot, a: u8, node: [u
     let key = key_of(job, from, a);
     let hints = hints_of(job, work, from, a, node);
     let goal = nodes::is_goal(job, work, node);
-    opened(node, hints, key, i as u64, a as u64, goal)
+    opened(node, hints, key, 0, i as u64, a as u64, goal)
 }
 
-// The slot of a node that is reached by a lesser key: the node is the old one, so it is a goal if that was.
+// The slot of a node that is reached by a lesser key: the node is the old one, so it is a goal if that was, and has its estimate.
 pub fn replaced(
     job: &[u8],
     work: &mut [u64],
@@ -75,7 +76,7 @@ pub fn replaced(
 {
     let hints = hints_of(job, work, from, a, node);
     let same = old.node;
-    opened(same, hints, key, i as u64, a as u64, old.goal)
+    opened(same, hints, key, old.estimate, i as u64, a as u64, old.goal)
 }
 
 // The slot of a node that is reached by an equal key: both ways' hints hold, and the way whose path comes first is kept.
@@ -104,8 +105,8 @@ pub fn merged(
     let parent = old.parent;
     let action = old.action;
     if paths::comes_first(t, n, i, a as u64, parent as usize, action) {
-        opened(same, hints, key, i as u64, a as u64, old.goal)
+        opened(same, hints, key, old.estimate, i as u64, a as u64, old.goal)
     } else {
-        opened(same, hints, key, parent, action, old.goal)
+        opened(same, hints, key, old.estimate, parent, action, old.goal)
     }
 }

@@ -1,11 +1,12 @@
 -- The system of a job that is given by its bytes: it meets the laws of exploration, and its counts are those of the bytes.
 use mathlib.Core.Path.{_≡_}
 use mathlib.Core.List.{List}
-use Prim.Native.Nat.{ℕ, _≤_}
+use Prim.Native.Nat.{ℕ, _≤_, _<_}
 use native.Mathlib.Omega.{arith}
 use Rattle.model.specs.declared.Verdict.the-variants.{Fine}
 use Rattle.model.specs.job.Layout.{actionCount, constraintCount, hintCount, jobOf}
 use Rattle.model.specs.job.Decoding.{jobVerdict}
+use Rattle.model.specs.search.Node.{Node}
 use Rattle.model.proofs.exploration.Laws.{Laws, Finite}
 use Rattle.model.proofs.job.Accepted.{accepted-proper}
 use Rattle.model.proofs.job.SystemLaws.{job-laws}
@@ -26,6 +27,10 @@ module _ (job : List ℕ) where
     -- An accepted job has finitely many nodes.
     pub sys-finite : Finite (sys job)
     sys-finite = job-finite (jobOf job) (accepted-proper job h)
+
+    -- A node's estimate fits a slot.
+    pub estimate-narrow : (n : Node) → sys job .estimate n < 1073741824
+    estimate-narrow n = omega arith
 
     -- An accepted job has at most 64 actions.
     pub few-actions : actionCount job ≤ 64

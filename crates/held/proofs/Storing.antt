@@ -68,7 +68,7 @@ module _ (job : List ℕ) where
 
   taken-sound : (s : Slot) → Sound job s → Sound job (takenSlot s)
   unfolding takenSlot
-  taken-sound s h = record { clean = h .clean; cleanHints = h .cleanHints; marked = h .marked; summed = h .summed }
+  taken-sound s h = record { clean = h .clean; cleanHints = h .cleanHints; marked = h .marked; estimated = h .estimated; summed = h .summed }
 
 module _ (job t u : List ℕ) (i : ℕ) (e : slots u ≡ set (slots t) i (takenSlot (slotAt t i))) (n : ℕ) (l : i < n) (h : n * 160 ≤ length t) where
   -- The record of a slot that was marked is taken.

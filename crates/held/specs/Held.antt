@@ -37,11 +37,13 @@ module _ (job : List ℕ) where
   unfolding heldIs slots
   heldIn n table = map heldIs (take n (slots table))
 
-  -- What holds of every slot in use: nothing after its last residuals, its goal mark is right, and costs are sums of 16-bit numbers.
+  -- What holds of every slot in use: nothing after its last residuals, its goal mark and its estimate are its node's, and costs are sums of
+  -- 16-bit numbers.
   pub record Sound (s : Slot) : Type 0 where
     pub clean : Clean (constraintCount job) (s .node)
     pub cleanHints : CleanHints (hintCount job) (s .hints)
     pub marked : s .goal ≡ isGoal (jobOf job) (nodeIs (constraintCount job) (s .node))
+    pub estimated : s .estimate ≡ sys .estimate (nodeIs (constraintCount job) (s .node))
     pub summed : s .cost ≤ 65535 * s .steps
 
   abbrev pub SoundTo : ℕ → List ℕ → Type 0

@@ -33,13 +33,13 @@ use Rattle.search.specs.Outcome.{EndsAs, Begun}
 
 -- the slot of a start node
 abbrev pub startSlot : List ℕ → List ℕ → Bool → Slot
-startSlot node hints goal = record { node = node; hints = hints; cost = 0; steps = 0; parent = 0; action = 0; taken = false; goal = goal }
+startSlot node hints goal = record { node = node; hints = hints; cost = 0; steps = 0; estimate = 0; parent = 0; action = 0; taken = false; goal = goal }
 
 module _ (job t u node hints : List ℕ) (goal : Bool) (clean : Clean (constraintCount job) node) (carried : Carries (hintCount job) (startHints (jobOf job)) hints)
     (marked : goal ≡ isGoal (jobOf job) (nodeIs (constraintCount job) node)) where
   -- It is sound, and stands for the first record of the start table.
   start-sound : Sound job (startSlot node hints goal)
-  start-sound = record { clean = clean; cleanHints = carried .clean; marked = marked; summed = omega arith }
+  start-sound = record { clean = clean; cleanHints = carried .clean; marked = marked; estimated = refl; summed = omega arith }
 
   start-record : heldIs job (startSlot node hints goal) ≡ record { node = nodeIs (constraintCount job) node; key = zeroKey; hints = startHints (jobOf job); parent = 0; action = 0; taken = false }
   unfolding heldIs zeroKey

@@ -4,7 +4,6 @@ use mathlib.Core.Option.{none, some}
 use mathlib.Core.List.{List}
 use Prim.Native.Nat.{ℕ, suc, _*_, _≤_, _<_}
 use lib.ListN.{length}
-use Rattle.model.specs.exploration.Key.{Key}
 use Rattle.model.specs.exploration.Equations.{plan, no-plan}
 use Rattle.model.specs.declared.Verdict.the-variants.{Fine}
 use Rattle.model.specs.job.Decoding.{jobVerdict}
@@ -13,7 +12,7 @@ use Rattle.model.specs.search.JobSystem.{startNode}
 use Rattle.dijkstra.specs.Records.{leastOpen}
 use Rattle.dijkstra.specs.Search.{Result, answered, too-small, firstGoal, turns, startTable}
 use Rattle.table.specs.Slots.{slotAt}
-use Rattle.table.specs.Lookup.{keyOf}
+use Rattle.table.specs.Lookup.{rankAt}
 use Rattle.nodes.specs.Meaning.{nodeIs, Clean}
 use Rattle.paths.specs.Chain.{held, stepsAt, slotPath, Chained}
 use Rattle.held.specs.Held.{sys, heldIn, SoundTo}
@@ -37,20 +36,16 @@ Turned job places n t u (On m) =
     Idle job places m u × ((k : ℕ) → turns (sys job) places (suc k) (heldIn job n t) ≡ turns (sys job) places k (heldIn job m u))
 Turned job places n t u (End e) = (k : ℕ) → EndsAs u e (turns (sys job) places (suc k) (heldIn job n t))
 
--- the key of slot i
-abbrev pub keyAt : List ℕ → ℕ → Key
-keyAt t i = keyOf (slotAt t i .cost) (slotAt t i .steps)
-
--- Slot i is the open one of the least key.
+-- Slot i is the open one of the least rank.
 pub record Least (job : List ℕ) (n : ℕ) (t : List ℕ) (i : ℕ) : Type 0 where
   pub inside : i < n
-  pub least : leastOpen (sys job) (heldIn job n t) 0 ≡ some (record { slot = i; key = keyAt t i })
+  pub least : leastOpen (sys job) (heldIn job n t) 0 ≡ some (record { slot = i; rank = rankAt (slotAt t i) })
 
--- No goal has its key, so it is taken.
+-- No goal has its rank as its key, so it is taken.
 pub record Taking (job : List ℕ) (places n : ℕ) (t : List ℕ) (i : ℕ) : Type 0 where
   pub idle : Idle job places n t
   pub chosen : Least job n t i
-  pub noGoal : firstGoal (sys job) (heldIn job n t) (keyAt t i) (heldIn job n t) 0 ≡ none
+  pub noGoal : firstGoal (sys job) (heldIn job n t) (rankAt (slotAt t i)) (heldIn job n t) 0 ≡ none
 
 -- A search of an accepted job can begin: its start node, of that array, is reached, and there is a slot for it.
 pub record Starts (job : List ℕ) (places : ℕ) (node t : List ℕ) : Type 0 where

@@ -17,7 +17,7 @@ ghost use Rattle.held.specs.Held.{sys};
 ghost use Rattle.progression.specs.Workspace.{Workspace};
 ghost use Rattle.search.specs.Outcome.{EndsAs, Starts, Begun};
 
-// Writes the start node, which has no parent, to slot 0.
+// Writes the start node, which has no parent, to slot 0; for now every estimate is 0.
 fn begin(job: &[u8], work: &mut [u64], t: &mut [u8], node: [u64; 9])
     requires { ⌜ (jobVerdict (now job) ≡ Fine) × Clean (constraintCount (now job)) node × (160 ≤ length (now t)) × Workspace (now job) (now work) ⌝ }
     ensures { λ _. ⌜ Begun (now (job .entry)) node (now (t .exit)) × Workspace (now (job .entry)) (now (work .exit)) ⌝ }
@@ -33,6 +33,7 @@ fn begin(job: &[u8], work: &mut [u64], t: &mut [u8], node: [u64; 9])
             hints,
             cost: key.cost,
             steps: key.steps,
+            estimate: 0,
             parent: 0,
             action: 0,
             taken: false,

@@ -1,4 +1,4 @@
-// The turns of the search. Each takes the open slot of the least key, until a goal has that key or no slot is open.
+// The turns of the search. Each takes the open slot of the least rank, until a goal has that rank as its key or no slot is open.
 use super::Ended;
 use super::Turn;
 use super::goals;
@@ -42,12 +42,12 @@ fn take(job: &[u8], work: &mut [u64], t: &mut [u8], n: usize, places: usize, i: 
     }
 }
 
-// A turn at the slot i, the open one of the least key.
+// A turn at the slot i, the open one of the least rank; the estimate of a goal is 0, so its key is its rank.
 fn turn_at(job: &[u8], work: &mut [u64], t: &mut [u8], n: usize, places: usize, i: usize) -> Turn
     requires { ⌜ Idle (now job) places n (now t) × Least (now job) n (now t) i × Workspace (now job) (now work) ⌝ }
     ensures { λ r. ⌜ Turned (now (job .entry)) places n (now (t .entry)) (now (t .exit)) r × Workspace (now (job .entry)) (now (work .exit)) ⌝ }
 {
-    let cost = slots::cost(t, i);
+    let cost = lookup::estimated_cost(t, i);
     let steps = slots::steps(t, i);
     match goals::first_goal(job, t, n, cost, steps) {
         Found::At(g) => Turn::End(Ended::Goal(g, n)),

@@ -18,7 +18,7 @@ use Rattle.table.specs.declared.Best.{Best}
 use Rattle.table.specs.declared.Best.the-variants.{Open, NoOpen}
 use Rattle.table.specs.Cells.{word}
 use Rattle.table.specs.Slots.{slots, slotAt, noSlot}
-use Rattle.table.specs.Lookup.{findIn, keyOf, better, leastIn, slotOfBest}
+use Rattle.table.specs.Lookup.{findIn, keyOf, rankAt, better, leastIn, slotOfBest}
 use Rattle.table.proofs.SlotLaws.{length-slots, length-node, node-word}
 
 -- ---- two lists of numbers, compared from the front
@@ -89,7 +89,7 @@ unfolding better
 better-taken s k NoOpen q = rw (← q)
 better-taken s k (Open i c n) q = rw (← q)
 
-module _ (s : Slot) (k : ℕ) (b : Best) (q : false ≡ s .taken) (x y : ℕ) (ex : x ≡ s .cost) (ey : y ≡ s .steps) where
+module _ (s : Slot) (k : ℕ) (b : Best) (q : false ≡ s .taken) (x y : ℕ) (ex : x ≡ s .cost + s .estimate) (ey : y ≡ s .steps) where
   pub better-first : b ≡ NoOpen → Open k x y ≡ better s k b
   unfolding better
   better-first e = rw (e, ← q, ex, ey)
@@ -139,12 +139,12 @@ better-below : (s : Slot) (k n : ℕ) (b : Best) → k < n → Below n (slotOfBe
 unfolding better slotOfBest
 better-below s k n NoOpen g h = go (s .taken)
   where
-    go : (t : Bool) → Below n (slotOfBest (choose t NoOpen (Open k (s .cost) (s .steps))))
+    go : (t : Bool) → Below n (slotOfBest (choose t NoOpen (Open k (s .cost + s .estimate) (s .steps))))
     go true = tt
     go false = g
-better-below s k n (Open i c m) g h = go (s .taken) (less (keyOf c m) (keyOf (s .cost) (s .steps)))
+better-below s k n (Open i c m) g h = go (s .taken) (less (keyOf c m) (rankAt s))
   where
-    go : (t l : Bool) → Below n (slotOfBest (choose t (Open i c m) (choose l (Open i c m) (Open k (s .cost) (s .steps)))))
+    go : (t l : Bool) → Below n (slotOfBest (choose t (Open i c m) (choose l (Open i c m) (Open k (s .cost + s .estimate) (s .steps)))))
     go true l = h
     go false true = h
     go false false = g

@@ -43,6 +43,10 @@ module _ (l : List ℕ) (i w : ℕ) where
   unfolding slotOf
   slot-steps e h = rw (slot-at l i h, row-at l i 17 (omega arith), ← e)
 
+  pub slot-estimate : w ≡ word l (i * 20 + 19) → i * 160 + 160 ≤ length l → w % 1073741824 ≡ slotAt l i .estimate
+  unfolding slotOf
+  slot-estimate e h = rw (slot-at l i h, row-at l i 19 (omega arith), ← e)
+
   pub slot-parent : w ≡ word l (i * 20 + 17) → i * 160 + 160 ≤ length l → w / 281474976710656 % 65536 ≡ slotAt l i .parent
   unfolding slotOf
   slot-parent e h = rw (slot-at l i h, row-at l i 17 (omega arith), ← e)
@@ -72,7 +76,10 @@ node-word l i j g h = rw (slot-at l i h) (getD-listOf (λ k. getD (row l i) k 0)
 -- What is read from a row is slot i, within its widths.
 pub slot-read : (l a : List ℕ) (i : ℕ) (s : Slot) → s ≡ slotOf a → a ≡ row l i → i * 160 + 160 ≤ length l → (s ≡ slotAt l i) × Narrow s
 unfolding slotOf
-slot-read l a i s e q h = (e ∙ ap slotOf q ∙ sym (slot-at l i h), rw e (omega arith))
+slot-read l a i s e q h = (
+  e ∙ ap slotOf q ∙ sym (slot-at l i h),
+  rw e (record { cost = omega arith; steps = omega arith; estimate = omega arith; parent = omega arith; action = omega arith }),
+)
 
 -- A slot's numbers are within their widths.
 pub slot-narrow : (l : List ℕ) (i : ℕ) → i * 160 + 160 ≤ length l → Narrow (slotAt l i)
@@ -97,13 +104,13 @@ slots-set l t a i s q e n h =
 pub slots-marked : (l t : List ℕ) (i v w : ℕ) → w ≡ word l (i * 20 + 18) → t ≡ withWord l (i * 20 + 18) v → v ≡ markWord w → v < 2 ^ 64 → i * 160 + 160 ≤ length l
     → slots t ≡ set (slots l) i (takenSlot (slotAt l i))
 slots-marked l t i v w ew et ev b h =
-    slots-set l t (row t i) i (takenSlot (slotAt l i)) (refl, other) (slot-marked (row l i) (row t i) before here ∙ ap takenSlot (sym (slot-at l i h))) (ap length et ∙ length-word l (i * 20 + 18) v) h
+    slots-set l t (row t i) i (takenSlot (slotAt l i)) (refl, other) (slot-marked (row l i) (row t i) beside here ∙ ap takenSlot (sym (slot-at l i h))) (ap length et ∙ length-word l (i * 20 + 18) v) h
   where
     other : (m : ℕ) → m ≢ i → row t m ≡ row l m
     other m d = row-words l t m (λ j g. ap (λ (x : List ℕ). word x (m * 20 + j)) et ∙ word-other l (i * 20 + 18) (m * 20 + j) v (omega arith))
 
-    before : (j : ℕ) → j < 18 → getD (row t i) j 0 ≡ getD (row l i) j 0
-    before j g =
+    beside : (j : ℕ) → j < 20 → j ≢ 18 → getD (row t i) j 0 ≡ getD (row l i) j 0
+    beside j g d =
         row-at t i j (omega arith) ∙ ap (λ (x : List ℕ). word x (i * 20 + j)) et ∙ word-other l (i * 20 + 18) (i * 20 + j) v (omega arith)
         ∙ sym (row-at l i j (omega arith))
 

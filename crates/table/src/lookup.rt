@@ -1,4 +1,4 @@
-// Slots looked up: the slot of a node, and the open slot of the least key.
+// Slots looked up: the slot of a node, and the open slot of the least rank.
 use super::Best;
 use super::Found;
 use super::cells;
@@ -65,7 +65,15 @@ fn is_less(cost: u64, steps: u64, cost2: u64, steps2: u64) -> bool
     })
 }
 
-// The better of the slot i and the best after it; of equal keys the first.
+// The cost of the slot i plus its estimate.
+pub fn estimated_cost(t: &[u8], i: usize) -> u64
+    requires { ⌜ i * 160 + 160 ≤ length (now t) ⌝ }
+    ensures { λ r. ⌜ r ≡ slotAt (now (t .entry)) i .cost + slotAt (now (t .entry)) i .estimate ⌝ }
+{
+    slots::cost(t, i) + slots::estimate(t, i)
+}
+
+// The better of the slot i and the best after it; of equal ranks the first.
 fn choose(t: &[u8], best: Best, i: usize) -> Best
     requires { ⌜ i * 160 + 160 ≤ length (now t) ⌝ }
     ensures { λ r. ⌜ r ≡ better (slotAt (now (t .entry)) i) i best ⌝ }
@@ -73,7 +81,7 @@ fn choose(t: &[u8], best: Best, i: usize) -> Best
     if slots::is_taken(t, i) {
         return best;
     }
-    let cost = slots::cost(t, i);
+    let cost = estimated_cost(t, i);
     let steps = slots::steps(t, i);
     match best {
         Best::NoOpen => Best::Open(i, cost, steps),
@@ -97,7 +105,7 @@ fn slot_of(best: Best) -> Found
     }
 }
 
-// The first open slot of the least key, of n slots.
+// The first open slot of the least rank, of n slots.
 pub fn least(t: &[u8], n: usize) -> Found
     requires { ⌜ n * 160 ≤ length (now t) ⌝ }
     ensures { λ r. ⌜ r ≡ slotOfBest (leastIn (take n (slots (now (t .entry)))) 0) ⌝ }

@@ -3,6 +3,7 @@ use super::Slot;
 use super::cells;
 use super::cells::ROW;
 use super::rows;
+use super::rows::ESTIMATE;
 use super::rows::GOAL;
 use super::rows::PARENT;
 use super::rows::STEPS;
@@ -74,6 +75,14 @@ pub fn steps(t: &[u8], i: usize) -> u64
     ensures { λ r. ⌜ (r ≡ slotAt (now (t .entry)) i .steps) × (r < 65536) ⌝ }
 {
     cells::get(t, i * ROW + 17) / STEPS % 65536
+}
+
+// The estimate of the slot i.
+pub fn estimate(t: &[u8], i: usize) -> u64
+    requires { ⌜ i * 160 + 160 ≤ length (now t) ⌝ }
+    ensures { λ r. ⌜ (r ≡ slotAt (now (t .entry)) i .estimate) × (r < 1073741824) ⌝ }
+{
+    cells::get(t, i * ROW + 19) % ESTIMATE
 }
 
 // The parent of the slot i.
