@@ -8,6 +8,7 @@ use Prim.Native.Nat.{ℕ, suc, _+_, _*_, _≤_, _<_}
 use native.Mathlib.Omega.{arith}
 use lib.ListN.{length}
 use Rattle.model.specs.exploration.Key.{Key, extend, earlier}
+use Rattle.model.specs.search.Query.{Query}
 use Rattle.dijkstra.specs.Records.{Held}
 use Rattle.dijkstra.specs.Search.{pathBy}
 use Rattle.dijkstra.proofs.Slots.{Holds}
@@ -22,7 +23,7 @@ use Rattle.held.proofs.Chains.{chained, order-held}
 use Rattle.held.proofs.Steps.{next-fits}
 use Rattle.expansion.specs.Arrivals.{Arriving, Extends, Ties}
 
-module _ {job : List ℕ} {places n : ℕ} {t : List ℕ} {i : ℕ} {from : Slot} {a : ℕ} (x : Arriving job places n t i from a) where
+module _ {job : Query} {places n : ℕ} {t : List ℕ} {i : ℕ} {from : Slot} {a : ℕ} (x : Arriving job places n t i from a) where
   -- There is room for the slots in use, each holds its record, and each is sound.
   pub room : n * 160 ≤ length t
   room = omega (arith, x .running .room, x .running .used)

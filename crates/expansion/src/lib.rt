@@ -11,6 +11,7 @@ ghost use mathlib.Core.Path.{_≡_};
 ghost use Prim.Native.Nat.{_<_};
 ghost use Rattle.model.specs.job.Layout.{constraintCount, jobOf};
 ghost use Rattle.model.specs.search.Node.{sameNumbers};
+ghost use Rattle.model.specs.search.Query.{query};
 ghost use Rattle.table.specs.Slots.{slotAt};
 ghost use Rattle.progression.specs.Workspace.{Workspace};
 ghost use Rattle.nodes.specs.Meaning.{nodeIs, Applies, Clean};
@@ -38,8 +39,8 @@ fn relax(
     node: [u64; 9],
     j: usize,
 )
-    requires { ⌜ Arrives (now job) n (now t) i from a × (j < n) × Workspace (now job) (now work) ⌝ }
-    ensures { λ _. ⌜ Relaxes (now (job .entry)) n (now (t .entry)) i from a node j (now (t .exit)) × Workspace (now (job .entry)) (now (work .exit)) ⌝ }
+    requires { ⌜ Arrives (query (now job)) n (now t) i from a × (j < n) × Workspace (now job) (now work) ⌝ }
+    ensures { λ _. ⌜ Relaxes (query (now (job .entry))) n (now (t .entry)) i from a node j (now (t .exit)) × Workspace (now (job .entry)) (now (work .exit)) ⌝ }
 {
     if slots::is_taken(t, j) {
         return;
@@ -73,10 +74,10 @@ fn arrive(
     a: u8,
     node: [u64; 9],
 ) -> Grown
-    requires { ⌜ Arriving (now job) places n (now t) i from a × Clean (constraintCount (now job)) node × Workspace (now job) (now work) ⌝ }
-    ensures { λ r. ⌜ Grew (now (job .entry)) places
-        (arrive (sys (now (job .entry))) places (heldIn (now (job .entry)) n (now (t .entry))) (nodeIs (constraintCount (now (job .entry))) node)
-        (keyBy (now (job .entry)) from a) (hintsBy (now (job .entry)) from a node) i a) r (now (t .exit)) × Workspace (now (job .entry)) (now (work .exit)) ⌝ }
+    requires { ⌜ Arriving (query (now job)) places n (now t) i from a × Clean (constraintCount (now job)) node × Workspace (now job) (now work) ⌝ }
+    ensures { λ r. ⌜ Grew (query (now (job .entry))) places
+        (arrive (sys (query (now (job .entry)))) places (heldIn (query (now (job .entry))) n (now (t .entry))) (nodeIs (constraintCount (now (job .entry))) node)
+        (keyBy (query (now (job .entry))) from a) (hintsBy (query (now (job .entry))) from a node) i a) r (now (t .exit)) × Workspace (now (job .entry)) (now (work .exit)) ⌝ }
 {
     match lookup::find(t, n, node) {
         Found::At(j) => {
@@ -120,10 +121,10 @@ fn follow(
     from: Slot,
     a: u8,
 ) -> Grown
-    requires { ⌜ Arriving (now job) places n (now t) i from a × Applies (jobOf (now job)) (nodeIs (constraintCount (now job)) (from .node)) a
+    requires { ⌜ Arriving (query (now job)) places n (now t) i from a × Applies (jobOf (now job)) (nodeIs (constraintCount (now job)) (from .node)) a
         × Workspace (now job) (now work) ⌝ }
-    ensures { λ r. ⌜ Grew (now (job .entry)) places
-        (follow (sys (now (job .entry))) places (heldIn (now (job .entry)) n (now (t .entry))) (heldIs (now (job .entry)) from) i a) r (now (t .exit))
+    ensures { λ r. ⌜ Grew (query (now (job .entry))) places
+        (follow (sys (query (now (job .entry)))) places (heldIn (query (now (job .entry))) n (now (t .entry))) (heldIs (query (now (job .entry))) from) i a) r (now (t .exit))
         × Workspace (now (job .entry)) (now (work .exit)) ⌝ }
 {
     let at = from.node;
@@ -148,10 +149,10 @@ pub fn expand(
     places: usize,
     i: usize,
 ) -> Grown
-    requires { ⌜ Busy (now job) places n (now t) i 0 × Workspace (now job) (now work) ⌝ }
-    ensures { λ r. ⌜ Grew (now (job .entry)) places
-        (expand (sys (now (job .entry))) places (heldIn (now (job .entry)) n (now (t .entry))) (heldIs (now (job .entry)) (slotAt (now (t .entry)) i)) i
-        (sys (now (job .entry)) .actions)) r (now (t .exit)) × Workspace (now (job .entry)) (now (work .exit)) ⌝ }
+    requires { ⌜ Busy (query (now job)) places n (now t) i 0 × Workspace (now job) (now work) ⌝ }
+    ensures { λ r. ⌜ Grew (query (now (job .entry))) places
+        (expand (sys (query (now (job .entry)))) places (heldIn (query (now (job .entry))) n (now (t .entry))) (heldIs (query (now (job .entry))) (slotAt (now (t .entry)) i)) i
+        (sys (query (now (job .entry))) .actions)) r (now (t .exit)) × Workspace (now (job .entry)) (now (work .exit)) ⌝ }
 {
     let from = slots::load(t, i);
     let count = access::action_count(job);

@@ -4,6 +4,7 @@ use task::Key;
 ghost use mathlib.Core.Path.{_≡_};
 ghost use Prim.Native.Nat.{_<_};
 ghost use Rattle.model.specs.job.Layout.{constraintCount, hintCount};
+ghost use Rattle.model.specs.search.Query.{query};
 ghost use Rattle.progression.specs.Workspace.{Workspace};
 ghost use Rattle.nodes.specs.Meaning.{Clean, Carries};
 ghost use Rattle.dijkstra.specs.Search.{tied};
@@ -12,8 +13,8 @@ ghost use Rattle.expansion.specs.Arrivals.{openSlot, Extends, Reaches, M
 
 // The key of an arrival: the sum fits, since costs are sums of as many 16-bit numbers as there are steps.
 pub fn key_of(job: &[u8], from: Slot, a: u8) -> Key
-    requires { ⌜ Extends (now job) from a ⌝ }
-    ensures { λ r. ⌜ Reaches (keyBy (now (job .entry)) from a) r ⌝ }
+    requires { ⌜ Extends (query (now job)) from a ⌝ }
+    ensures { λ r. ⌜ Reaches (keyBy (query (now (job .entry))) from a) r ⌝ }
 {
     let key = Key {
         cost: from.cost,
@@ -24,8 +25,8 @@ pub fn key_of(job: &[u8], from: Slot, a: u8) -> Key
 
 // The hint residuals of an arrival at a node.
 fn hints_of(job: &[u8], work: &mut [u64], from: Slot, a: u8, node: [u64; 9]) -> [u64; 8]
-    requires { ⌜ Extends (now job) from a × Workspace (now job) (now work) ⌝ }
-    ensures { λ r. ⌜ Carries (hintCount (now (job .entry))) (hintsBy (now (job .entry)) from a node) r × Workspace (now (job .entry)) (now (work .exit)) ⌝ }
+    requires { ⌜ Extends (query (now job)) from a × Workspace (now job) (now work) ⌝ }
+    ensures { λ r. ⌜ Carries (hintCount (now (job .entry))) (hintsBy (query (now (job .entry))) from a node) r × Workspace (now (job .entry)) (now (work .exit)) ⌝ }
 {
     let hints = from.hints;
     nodes::next_hints(job, work, hints, node, a)
@@ -50,8 +51,8 @@ fn opened(node: [u64; 9], hints: [u64; 8], key: Key, estimate: u64, parent: u64,
 
 // The slot of a new node; for now every estimate is 0.
 pub fn fresh(job: &[u8], work: &mut [u64], i: usize, from: Slot, a: u8, node: [u64; 9]) -> Slot
-    requires { ⌜ Extends (now job) from a × (i < 65536) × Clean (constraintCount (now job)) node × Workspace (now job) (now work) ⌝ }
-    ensures { λ r. ⌜ Makes (now (job .entry)) (newcomer (now (job .entry)) i from a node node) r × Workspace (now (job .entry)) (now (work .exit)) ⌝ }
+    requires { ⌜ Extends (query (now job)) from a × (i < 65536) × Clean (constraintCount (now job)) node × Workspace (now job) (now work) ⌝ }
+    ensures { λ r. ⌜ Makes (query (now (job .entry))) (newcomer (query (now (job .entry))) i from a node node) r × Workspace (now (job .entry)) (now (work .exit)) ⌝ }
 {
     let key = key_of(job, from, a);
     let hints = hints_of(job, work, from, a, node);
@@ -70,9 +71,9 @@ pub fn replaced(
     key: Key,
     old: Slot,
 ) -> Slot
-    requires { ⌜ Extends (now job) from a × (i < 65536) × Reaches (keyBy (now job) from a) key × Sound (now job) old
+    requires { ⌜ Extends (query (now job)) from a × (i < 65536) × Reaches (keyBy (query (now job)) from a) key × Sound (query (now job)) old
         × Workspace (now job) (now work) ⌝ }
-    ensures { λ r. ⌜ Makes (now (job .entry)) (newcomer (now (job .entry)) i from a node (old .node)) r × Workspace (now (job .entry)) (now (work .exit)) ⌝ }
+    ensures { λ r. ⌜ Makes (query (now (job .entry))) (newcomer (query (now (job .entry))) i from a node (old .node)) r × Workspace (now (job .entry)) (now (work .exit)) ⌝ }
 {
     let hints = hints_of(job, work, from, a, node);
     let same = old.node;
@@ -91,9 +92,9 @@ pub fn merged(
     node: [u64; 9],
     old: Slot,
 ) -> Slot
-    requires { ⌜ Arrives (now job) n (now t) i from a × Ties (now job) n (now t) from a old × Workspace (now job) (now work) ⌝ }
-    ensures { λ r. ⌜ Makes (now (job .entry)) (tied (sys (now (job .entry))) (heldIn (now (job .entry)) n (now (t .entry))) (heldIs (now (job .entry)) old)
-        (hintsBy (now (job .entry)) from a node) i a) r × Workspace (now (job .entry)) (now (work .exit)) ⌝ }
+    requires { ⌜ Arrives (query (now job)) n (now t) i from a × Ties (query (now job)) n (now t) from a old × Workspace (now job) (now work) ⌝ }
+    ensures { λ r. ⌜ Makes (query (now (job .entry))) (tied (sys (query (now (job .entry)))) (heldIn (query (now (job .entry))) n (now (t .entry))) (heldIs (query (now (job .entry))) old)
+        (hintsBy (query (now (job .entry))) from a node) i a) r × Workspace (now (job .entry)) (now (work .exit)) ⌝ }
 {
     let held = old.hints;
     let hints = progression::met(held, hints_of(job, work, from, a, node));

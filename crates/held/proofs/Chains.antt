@@ -7,6 +7,7 @@ use lib.ListN.{length, getD, take}
 use Rattle.model.specs.exploration.Key.{earlier}
 use Rattle.model.specs.exploration.Explore.{Entry}
 use Rattle.model.specs.search.Node.{Node}
+use Rattle.model.specs.search.Query.{Query}
 use Rattle.dijkstra.specs.Records.{Held, Table, pathOf}
 use Rattle.dijkstra.specs.Search.{pathBy}
 use Rattle.dijkstra.proofs.Invariant.{Linked, Inv, linked-steps, path-suc, pathBy-suc, steps-linked}
@@ -20,7 +21,7 @@ use Rattle.held.proofs.HeldLaws.{held-map, all-held-at, all-held-is}
 
 -- ---- any slots, whose records are a search's table
 
-module _ (job : List ℕ) {m0 : Node} (ss : List Slot) {P : Entry (sys job) → Type 0} (inv : Inv (sys job) m0 (map (heldIs job) ss) P) where
+module _ (job : Query) {m0 : Node} (ss : List Slot) {P : Entry (sys job) → Type 0} (inv : Inv (sys job) m0 (map (heldIs job) ss) P) where
   abbrev T : Table (sys job)
   T = map (heldIs job) ss
 
@@ -58,7 +59,7 @@ module _ (job : List ℕ) {m0 : Node} (ss : List Slot) {P : Entry (sys job) → 
 
 -- ---- the first n slots of a table
 
-module _ (job : List ℕ) {m0 : Node} (n : ℕ) (t : List ℕ) {P : Entry (sys job) → Type 0} (inv : Inv (sys job) m0 (heldIn job n t) P) where
+module _ (job : Query) {m0 : Node} (n : ℕ) (t : List ℕ) {P : Entry (sys job) → Type 0} (inv : Inv (sys job) m0 (heldIn job n t) P) where
   inv-map : Inv (sys job) m0 (map (heldIs job) (take n (slots t))) P
   inv-map = subst (λ (u : Table (sys job)). Inv (sys job) m0 u P) (held-map job n t) inv
 

@@ -5,6 +5,7 @@ use mathlib.Core.List.{List, [], _∷_, map}
 use Prim.Native.Nat.{ℕ, zero, suc, _*_, _≤_, _<_}
 use native.Mathlib.Omega.{arith}
 use lib.ListN.{length, getD, getElem?, take, length-map, length-take}
+use Rattle.model.specs.search.Query.{Query}
 use Rattle.model.proofs.job.VerdictLaws.{all-getD}
 use Rattle.dijkstra.specs.Records.{Held}
 use Rattle.dijkstra.proofs.Slots.{Holds, holds-one, holds-lt}
@@ -19,7 +20,7 @@ map-at f [] i d h = absurd (omega arith)
 map-at f (x ∷ l) zero d h = refl
 map-at f (x ∷ l) (suc i) d h = map-at f l i d (omega arith)
 
-module _ (job : List ℕ) where
+module _ (job : Query) where
   -- The records are those of the slots, one by one.
   pub held-map : (n : ℕ) (t : List ℕ) → heldIn job n t ≡ map (heldIs job) (take n (slots t))
   unfolding heldIn

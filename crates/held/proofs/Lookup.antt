@@ -10,6 +10,7 @@ use Rattle.model.specs.logic.Formula.{choose}
 use Rattle.model.specs.exploration.Key.{Key, less}
 use Rattle.model.specs.job.Layout.{constraintCount}
 use Rattle.model.specs.search.Node.{sameNumbers, sameNode}
+use Rattle.model.specs.search.Query.{Query}
 use Rattle.model.proofs.exploration.Each.{All}
 use Rattle.dijkstra.specs.Records as search
 use Rattle.dijkstra.specs.Records.{rankIn, find, leastOpen}
@@ -21,9 +22,9 @@ use Rattle.table.specs.declared.Best.{Best}
 use Rattle.table.specs.declared.Best.the-variants.{Open, NoOpen}
 use Rattle.table.specs.Slots.{slots, slotAt}
 use Rattle.table.specs.Lookup.{findIn, keyOf, rankAt, leastIn, slotOfBest}
-use Rattle.nodes.specs.Meaning.{nodeIs, Clean}
+use Rattle.nodes.specs.Meaning.{Clean}
 use Rattle.nodes.proofs.Same.{same-nodes}
-use Rattle.held.specs.Held.{sys, heldIs, heldIn, Sound, SoundTo, slotOption}
+use Rattle.held.specs.Held.{sys, nodeFor, heldIs, heldIn, Sound, SoundTo, slotOption}
 use Rattle.held.proofs.HeldLaws.{held-map, held-is, sound-at}
 
 -- the best open slot as an option
@@ -31,8 +32,8 @@ abbrev pub bestOption : Best → Option search.Open
 bestOption (Open i c k) = some (record { slot = i; rank = keyOf c k })
 bestOption NoOpen = none
 
-module _ (job : List ℕ) where
-  held-node : (s : Slot) → heldIs job s .node ≡ nodeIs (constraintCount job) (s .node)
+module _ (job : Query) where
+  held-node : (s : Slot) → heldIs job s .node ≡ nodeFor job (s .node)
   unfolding heldIs
   held-node s = refl
 
@@ -43,22 +44,22 @@ module _ (job : List ℕ) where
 
   -- ---- the slot of a node
 
-  module _ (few : constraintCount job ≤ 8) (node : List ℕ) (clean : Clean (constraintCount job) node) where
-    find-all : (ss : List Slot) → All (Sound job) ss → (k : ℕ) → find (sys job) (nodeIs (constraintCount job) node) (map (heldIs job) ss) k ≡ slotOption (findIn node ss k)
+  module _ (few : constraintCount (job .bytes) ≤ 8) (node : List ℕ) (clean : Clean (constraintCount (job .bytes)) node) where
+    find-all : (ss : List Slot) → All (Sound job) ss → (k : ℕ) → find (sys job) (nodeFor job node) (map (heldIs job) ss) k ≡ slotOption (findIn node ss k)
     unfolding find findIn
     find-all [] h k = refl
     find-all (s ∷ ss) h k = go (sameNumbers node (s .node)) refl (find-all ss (h .1) (suc k))
       where
-        same : sameNumbers node (s .node) ≡ sameNode (nodeIs (constraintCount job) node) (heldIs job s .node)
-        same = same-nodes (constraintCount job) node (s .node) clean (h .0 .clean) few ∙ ap (sameNode (nodeIs (constraintCount job) node)) (sym (held-node s))
+        same : sameNumbers node (s .node) ≡ sameNode (nodeFor job node) (heldIs job s .node)
+        same = same-nodes (constraintCount (job .bytes)) node (s .node) clean (h .0 .clean) few ∙ ap (sameNode (nodeFor job node)) (sym (held-node s))
 
-        go : (b : Bool) → sameNumbers node (s .node) ≡ b → find (sys job) (nodeIs (constraintCount job) node) (map (heldIs job) ss) (suc k) ≡ slotOption (findIn node ss (suc k))
-            → find (sys job) (nodeIs (constraintCount job) node) (map (heldIs job) (s ∷ ss)) k ≡ slotOption (findIn node (s ∷ ss) k)
+        go : (b : Bool) → sameNumbers node (s .node) ≡ b → find (sys job) (nodeFor job node) (map (heldIs job) ss) (suc k) ≡ slotOption (findIn node ss (suc k))
+            → find (sys job) (nodeFor job node) (map (heldIs job) (s ∷ ss)) k ≡ slotOption (findIn node (s ∷ ss) k)
         go true e ih = let q = sym same ∙ e in rw (e, findIn, q, find)
         go false e ih = let q = sym same ∙ e in rw (e, findIn, q, find) ih
 
     -- The slot of a node, among n sound slots.
-    pub find-held : (n : ℕ) (t : List ℕ) → SoundTo job n t → find (sys job) (nodeIs (constraintCount job) node) (heldIn job n t) 0 ≡ slotOption (findIn node (take n (slots t)) 0)
+    pub find-held : (n : ℕ) (t : List ℕ) → SoundTo job n t → find (sys job) (nodeFor job node) (heldIn job n t) 0 ≡ slotOption (findIn node (take n (slots t)) 0)
     find-held n t h = rw (held-map job n t) (find-all (take n (slots t)) h 0)
 
   -- ---- the open slot of the least rank

@@ -5,6 +5,7 @@ use Prim.Native.Nat.{ℕ, zero, suc, _+_, _*_, _≤_, _<_}
 use native.Mathlib.Numerals.{add-one}
 use lib.ListN.{length, set, take}
 use lib.Seq.{take-set-lt, take-suc-set}
+use Rattle.model.specs.search.Query.{Query}
 use Rattle.model.proofs.exploration.Each.{All, all-append}
 use Rattle.dijkstra.specs.Records.{take-it, mark}
 use Rattle.dijkstra.proofs.Taking.{mark-is}
@@ -42,7 +43,7 @@ module _ (t u : List ℕ) (j : ℕ) (s : Slot) (e : slots u ≡ set (slots t) j 
   pub first-more : j * 160 + 160 ≤ length t → take (j + 1) (slots u) ≡ take j (slots t) ++ (s ∷ [])
   first-more h = rw (e, add-one) (take-suc-set (slots t) j s (slot-inside t j h))
 
-module _ (job t u : List ℕ) (j : ℕ) (s : Slot) (e : slots u ≡ set (slots t) j s) where
+module _ (job : Query) (t u : List ℕ) (j : ℕ) (s : Slot) (e : slots u ≡ set (slots t) j s) where
   -- Stored in place of another slot, it changes that slot's record.
   pub store-held : (n : ℕ) → j < n → heldIn job n u ≡ set (heldIn job n t) j (heldIs job s)
   store-held n l = rw (held-map job n u, held-map job n t, first-set t u j s e n l) (map-set (heldIs job) (take n (slots t)) j s)
@@ -61,7 +62,7 @@ module _ (job t u : List ℕ) (j : ℕ) (s : Slot) (e : slots u ≡ set (slots t
 
 -- ---- slot i marked as taken
 
-module _ (job : List ℕ) where
+module _ (job : Query) where
   taken-held : (s : Slot) → heldIs job (takenSlot s) ≡ take-it (sys job) (heldIs job s)
   unfolding heldIs takenSlot take-it
   taken-held s = refl
@@ -70,7 +71,7 @@ module _ (job : List ℕ) where
   unfolding takenSlot
   taken-sound s h = record { clean = h .clean; cleanHints = h .cleanHints; marked = h .marked; estimated = h .estimated; summed = h .summed }
 
-module _ (job t u : List ℕ) (i : ℕ) (e : slots u ≡ set (slots t) i (takenSlot (slotAt t i))) (n : ℕ) (l : i < n) (h : n * 160 ≤ length t) where
+module _ (job : Query) (t u : List ℕ) (i : ℕ) (e : slots u ≡ set (slots t) i (takenSlot (slotAt t i))) (n : ℕ) (l : i < n) (h : n * 160 ≤ length t) where
   -- The record of a slot that was marked is taken.
   pub mark-held : heldIn job n u ≡ mark (sys job) (heldIn job n t) i
   mark-held =

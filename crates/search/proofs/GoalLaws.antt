@@ -13,6 +13,7 @@ use Rattle.model.specs.logic.Formula.{choose}
 use Rattle.model.specs.exploration.Key.{Key, sameKey}
 use Rattle.model.specs.job.Layout.{hintCount}
 use Rattle.model.specs.search.Node.{someDead}
+use Rattle.model.specs.search.Query.{Query}
 use Rattle.model.proofs.exploration.KeyLaws.{same-key}
 use Rattle.model.proofs.Tests.{and-both}
 use Rattle.dijkstra.specs.Search.{someCutIn}
@@ -30,7 +31,7 @@ use Rattle.search.specs.GoalSlots.{due, chosen, firstDue, Behind}
 
 -- ---- whether a slot is due, test by test
 
-module _ (job : List ℕ) (c s : ℕ) (x : Slot) where
+module _ (job : Query) (c s : ℕ) (x : Slot) where
   -- A slot of another cost is not due.
   pub other-cost : (v : ℕ) → v ≡ x .cost → (v ≡ c → ⊥) → false ≡ due job c s x
   unfolding due sameKey
@@ -41,14 +42,14 @@ module _ (job : List ℕ) (c s : ℕ) (x : Slot) where
   unfolding due sameKey
   other-steps v e n = go (eqb (x .cost) c)
     where
-      go : (b : Bool) → false ≡ (elim b [ true ↦ eqb (x .steps) s | false ↦ false ]) && not (someDead (hintsIs (hintCount job) (x .hints))) && x .goal
+      go : (b : Bool) → false ≡ (elim b [ true ↦ eqb (x .steps) s | false ↦ false ]) && not (someDead (hintsIs (hintCount (job .bytes)) (x .hints))) && x .goal
       go true = rw (ne-eqb (x .steps) s (λ q. n (e ∙ q)))
       go false = refl
 
   -- A slot of that cost and number of steps is loaded and looked at: it is not due if it is cut.
-  module _ (v w : ℕ) (ev : v ≡ x .cost) (ew : w ≡ x .steps) (ec : v ≡ c) (es : w ≡ s) (z : Slot) (loaded : z ≡ x) (d : Bool) (cut : d ≡ someDead (hintsIs (hintCount job) (z .hints))) where
-    is-cut : someDead (hintsIs (hintCount job) (x .hints)) ≡ d
-    is-cut = sym (cut ∙ ap (λ (y : Slot). someDead (hintsIs (hintCount job) (y .hints))) loaded)
+  module _ (v w : ℕ) (ev : v ≡ x .cost) (ew : w ≡ x .steps) (ec : v ≡ c) (es : w ≡ s) (z : Slot) (loaded : z ≡ x) (d : Bool) (cut : d ≡ someDead (hintsIs (hintCount (job .bytes)) (z .hints))) where
+    is-cut : someDead (hintsIs (hintCount (job .bytes)) (x .hints)) ≡ d
+    is-cut = sym (cut ∙ ap (λ (y : Slot). someDead (hintsIs (hintCount (job .bytes)) (y .hints))) loaded)
 
     pub not-due : d ≡ true → false ≡ due job c s x
     unfolding due sameKey
@@ -68,7 +69,7 @@ module _ (job : List ℕ) (c s : ℕ) (x : Slot) where
 
 -- ---- the choice between slot i and what was found after it; the test is y
 
-module _ (job t : List ℕ) (n c s i : ℕ) (f : Found) (y : Bool) (tested : y ≡ due job c s (slotAt t i)) where
+module _ (job : Query) (t : List ℕ) (n c s i : ℕ) (f : Found) (y : Bool) (tested : y ≡ due job c s (slotAt t i)) where
   abbrev Chosen : Found
   Chosen = chosen (held t n) (due job c s (slotAt t i)) i f
 
@@ -100,7 +101,7 @@ module _ (job t : List ℕ) (n c s i : ℕ) (f : Found) (y : Bool) (tested : y �
   chosen-here b o p h q e = rw (q, sym tested ∙ not-false y h, ← p, e)
 
 -- What was found after slot i, which is due, can be compared with it.
-pub comparable : (job t : List ℕ) (n i b c s : ℕ) (f : Found) (y : Bool) → y ≡ due job c s (slotAt t i) → not y ≡ false → f ≡ At b → Behind (held t n) (i + 1) c s f
+pub comparable : (job : Query) (t : List ℕ) (n i b c s : ℕ) (f : Found) (y : Bool) → y ≡ due job c s (slotAt t i) → not y ≡ false → f ≡ At b → Behind (held t n) (i + 1) c s f
     → n * 160 ≤ length t → i < n → Level (held t n) n b i
 comparable job t n i b c s f y tested h e behind room g =
     let k : Behind (held t n) (i + 1) c s (At b) = rw e at behind in
@@ -110,7 +111,7 @@ comparable job t n i b c s f y tested h e behind room g =
 
 -- ---- the slots from i on
 
-module _ (job : List ℕ) (c s : ℕ) (ss : List Slot) where
+module _ (job : Query) (c s : ℕ) (ss : List Slot) where
   abbrev From : ℕ → Found
   From i = firstDue job c s ss (drop i ss) i
 
@@ -154,7 +155,7 @@ module _ (job : List ℕ) (c s : ℕ) (ss : List Slot) where
 
 -- ---- a cut slot among all; the first i are not cut
 
-module _ (job : List ℕ) (ss : List Slot) (i : ℕ) where
+module _ (job : Query) (ss : List Slot) (i : ℕ) where
   abbrev CutIn : List Slot → Bool
   CutIn xs = someCutIn (sys job) (map (heldIs job) xs)
 

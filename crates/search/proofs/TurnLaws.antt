@@ -8,6 +8,7 @@ use native.Mathlib.Omega.{arith}
 use lib.ListN.{length, set}
 use Rattle.model.specs.exploration.System.{System}
 use Rattle.model.specs.exploration.Equations.{plan, no-plan}
+use Rattle.model.specs.search.Query.{Query}
 use Rattle.dijkstra.specs.Records.{Held, Open, Table, leastOpen, take-it, mark}
 use Rattle.dijkstra.specs.Search.{Result, answered, too-small, Filled, goes-on, full, follow, expand, firstGoal, someCutIn, exhausted, turns}
 use Rattle.dijkstra.proofs.Slots.{Holds, holds-one}
@@ -90,13 +91,13 @@ expand-taken S places t r i (suc c) =
 -- ---- a job's table
 
 -- The slots in use fit into the table, and are chained.
-pub idle-room : {job : List ℕ} {places n : ℕ} {t : List ℕ} → Idle job places n t → n * 160 ≤ length t
+pub idle-room : {job : Query} {places n : ℕ} {t : List ℕ} → Idle job places n t → n * 160 ≤ length t
 idle-room d = omega (arith, d .1 .room, d .1 .used)
 
-pub idle-chained : {job : List ℕ} {places n : ℕ} {t : List ℕ} → Idle job places n t → Chained (held t n)
+pub idle-chained : {job : Query} {places n : ℕ} {t : List ℕ} → Idle job places n t → Chained (held t n)
 idle-chained {job} {places} {n} {t} d = chained job n t (d .2 .inv)
 
-module _ (job : List ℕ) (places n : ℕ) (t : List ℕ) where
+module _ (job : Query) (places n : ℕ) (t : List ℕ) where
   -- No slot is open: the refusal is the end.
   pub nothing-ends : {x : ℕ} → leastOpen (sys job) (heldIn job n t) 0 ≡ none → exhausted (sys job) (heldIn job n t) ≡ no-plan x → Turned job places n t t (End (ended.NoPlan x))
   nothing-ends e h = λ k. turn-none (sys job) places (heldIn job n t) k e ∙ ap answered h
@@ -121,7 +122,7 @@ module _ (job : List ℕ) (places n : ℕ) (t : List ℕ) where
     unfolding turns
     turns-over d = sym (ap (λ (x : ℕ). turns (sys job) places x (heldIn job n t)) (sym d) ∙ rest)
 
-module _ {job : List ℕ} {places n : ℕ} {t : List ℕ} (idle : Idle job places n t) {i : ℕ} (l : Least job n t i) (c s : ℕ) (ec : c ≡ slotAt t i .cost + slotAt t i .estimate) (es : s ≡ slotAt t i .steps)
+module _ {job : Query} {places n : ℕ} {t : List ℕ} (idle : Idle job places n t) {i : ℕ} (l : Least job n t i) (c s : ℕ) (ec : c ≡ slotAt t i .cost + slotAt t i .estimate) (es : s ≡ slotAt t i .steps)
     (f : Found) (found : f ≡ firstDue job c s (held t n) (held t n) 0) where
   abbrev S : System
   S = sys job
@@ -144,7 +145,7 @@ module _ {job : List ℕ} {places n : ℕ} {t : List ℕ} (idle : Idle job place
   none-takes e = record { idle = idle; chosen = l; noGoal = goals ∙ ap (pathFound (held t n) s) e }
 
 -- Slot i is taken: the table is u then.
-module _ {job : List ℕ} {places n : ℕ} {t : List ℕ} {i : ℕ} (taking : Taking job places n t i) (u : List ℕ) (marked : slots u ≡ set (slots t) i (takenSlot (slotAt t i))) (size : length u ≡ length t) where
+module _ {job : Query} {places n : ℕ} {t : List ℕ} {i : ℕ} (taking : Taking job places n t i) (u : List ℕ) (marked : slots u ≡ set (slots t) i (takenSlot (slotAt t i))) (size : length u ≡ length t) where
   abbrev T : Table (sys job)
   T = heldIn job n t
 

@@ -11,6 +11,7 @@ ghost use Rattle.model.specs.declared.Verdict.the-variants.{Fine};
 ghost use Rattle.model.specs.calls.Search.{slotsIn};
 ghost use Rattle.model.specs.job.Layout.{constraintCount};
 ghost use Rattle.model.specs.job.Decoding.{jobVerdict};
+ghost use Rattle.model.specs.search.Query.{query};
 ghost use Rattle.dijkstra.specs.Search.{searchIn};
 ghost use Rattle.nodes.specs.Meaning.{Clean};
 ghost use Rattle.held.specs.Held.{sys};
@@ -20,7 +21,7 @@ ghost use Rattle.search.specs.Outcome.{EndsAs, Starts, Begun};
 // Writes the start node, which has no parent, to slot 0; for now every estimate is 0.
 fn begin(job: &[u8], work: &mut [u64], t: &mut [u8], node: [u64; 9])
     requires { ⌜ (jobVerdict (now job) ≡ Fine) × Clean (constraintCount (now job)) node × (160 ≤ length (now t)) × Workspace (now job) (now work) ⌝ }
-    ensures { λ _. ⌜ Begun (now (job .entry)) node (now (t .exit)) × Workspace (now (job .entry)) (now (work .exit)) ⌝ }
+    ensures { λ _. ⌜ Begun (query (now (job .entry))) node (now (t .exit)) × Workspace (now (job .entry)) (now (work .exit)) ⌝ }
 {
     let hints = nodes::start_hints(job);
     let goal = nodes::is_goal(job, work, node);
@@ -44,8 +45,8 @@ fn begin(job: &[u8], work: &mut [u64], t: &mut [u8], node: [u64; 9])
 
 // The search from the start node, in a table of so many places.
 fn from_start(job: &[u8], work: &mut [u64], t: &mut [u8], places: usize, node: [u64; 9]) -> Ended
-    requires { ⌜ Starts (now job) places node (now t) × Workspace (now job) (now work) ⌝ }
-    ensures { λ r. ⌜ EndsAs (now (t .exit)) r (searchIn (sys (now (job .entry))) places) ⌝ }
+    requires { ⌜ Starts (query (now job)) places node (now t) × Workspace (now job) (now work) ⌝ }
+    ensures { λ r. ⌜ EndsAs (now (t .exit)) r (searchIn (sys (query (now (job .entry)))) places) ⌝ }
 {
     begin(job, work, t, node);
     turns::run(job, work, t, places)
@@ -53,8 +54,8 @@ fn from_start(job: &[u8], work: &mut [u64], t: &mut [u8], places: usize, node: [
 
 // The same in a workspace of its own, which has a memo where that pays.
 fn in_workspace(job: &[u8], t: &mut [u8], places: usize, node: [u64; 9]) -> Ended
-    requires { ⌜ Starts (now job) places node (now t) ⌝ }
-    ensures { λ r. ⌜ EndsAs (now (t .exit)) r (searchIn (sys (now (job .entry))) places) ⌝ }
+    requires { ⌜ Starts (query (now job)) places node (now t) ⌝ }
+    ensures { λ r. ⌜ EndsAs (now (t .exit)) r (searchIn (sys (query (now (job .entry)))) places) ⌝ }
 {
     if progression::pays(job, places) {
         let mut work = [0u64; progression::WORDS];
@@ -68,7 +69,7 @@ fn in_workspace(job: &[u8], t: &mut [u8], places: usize, node: [u64; 9]) -> Ende
 // The search in a table, whatever its bytes are.
 pub fn searched(job: &[u8], t: &mut [u8]) -> Ended
     requires { ⌜ jobVerdict (now job) ≡ Fine ⌝ }
-    ensures { λ r. ⌜ EndsAs (now (t .exit)) r (searchIn (sys (now (job .entry))) (slotsIn (now (t .entry)))) ⌝ }
+    ensures { λ r. ⌜ EndsAs (now (t .exit)) r (searchIn (sys (query (now (job .entry)))) (slotsIn (now (t .entry)))) ⌝ }
 {
     let first = nodes::start(job);
     if !first.alive {

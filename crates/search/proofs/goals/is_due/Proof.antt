@@ -1,5 +1,6 @@
 -- `is_due` tests the cost, the steps and the hints, and then it is the goal mark that decides.
 use borrow.Author.Needs.{needs}
+use Rattle.model.specs.search.Query.{query}
 use Rattle.table.specs.Slots.{slotAt}
 use Rattle.search.proofs.GoalLaws.{other-cost, other-steps, not-due, is-due}
 use Rattle.search.proofs.goals.is_due.Statement.{statement}
@@ -8,12 +9,12 @@ use Rattle.search.proofs.goals.is_due.Tie as tie
 returns : tie.Need-returns
 returns c =
     let s = c .before .before .before .before .args in
-    other-cost (s .job .now) (s .cost) (s .steps) _ _ (c .before .cost .ensures .0) (c .if1 .taken)
+    other-cost (query (s .job .now)) (s .cost) (s .steps) _ _ (c .before .cost .ensures .0) (c .if1 .taken)
 
 returns-2 : tie.Need-returns-2
 returns-2 c =
     let s = c .before .before .before .before .before .before .args in
-    other-steps (s .job .now) (s .cost) (s .steps) _ _ (c .before .steps .ensures .0) (c .if2 .taken)
+    other-steps (query (s .job .now)) (s .cost) (s .steps) _ _ (c .before .steps .ensures .0) (c .if2 .taken)
 
 returns-3 : tie.Need-returns-3
 returns-3 c =
@@ -21,7 +22,7 @@ returns-3 c =
     let l = k .before .before in
     let p = l .before in
     let s = p .before .before .before .before .before .before .args in
-    not-due (s .job .now) (s .cost) (s .steps) (slotAt (s .t .now) (s .i)) _ _ (p .before .before .before .cost .ensures .0) (p .before .steps .ensures .0) (p .before .before .if1 .left) (p .if2 .left) _ (l .load .ensures .0) _ (k .is-cut .ensures) (c .if3 .taken)
+    not-due (query (s .job .now)) (s .cost) (s .steps) (slotAt (s .t .now) (s .i)) _ _ (p .before .before .before .cost .ensures .0) (p .before .steps .ensures .0) (p .before .before .if1 .left) (p .if2 .left) _ (l .load .ensures .0) _ (k .is-cut .ensures) (c .if3 .taken)
 
 returns-4 : tie.Need-returns-4
 returns-4 c =
@@ -29,7 +30,7 @@ returns-4 c =
     let l = k .before .before in
     let p = l .before in
     let s = p .before .before .before .before .before .before .args in
-    is-due (s .job .now) (s .cost) (s .steps) (slotAt (s .t .now) (s .i)) _ _ (p .before .before .before .cost .ensures .0) (p .before .steps .ensures .0) (p .before .before .if1 .left) (p .if2 .left) _ (l .load .ensures .0) _ (k .is-cut .ensures) (c .if3 .left)
+    is-due (query (s .job .now)) (s .cost) (s .steps) (slotAt (s .t .now) (s .i)) _ _ (p .before .before .before .cost .ensures .0) (p .before .steps .ensures .0) (p .before .before .if1 .left) (p .if2 .left) _ (l .load .ensures .0) _ (k .is-cut .ensures) (c .if3 .left)
 
 pub is-due-spec : {M : Type 1} → statement M
 is-due-spec =
