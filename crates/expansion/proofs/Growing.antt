@@ -11,6 +11,7 @@ use Rattle.model.specs.task.State.{applicable}
 use Rattle.model.specs.search.Node.{sameNumbers}
 use Rattle.model.specs.search.JobSystem.{nextNode}
 use Rattle.model.specs.search.Query.{Query, jobFor}
+use Rattle.model.specs.calls.Search.{slotBytes}
 use Rattle.model.proofs.job.NodeLaws.{numbers-eq}
 use Rattle.table.specs.declared.Slot.{Slot}
 use Rattle.table.specs.declared.Found.{Found}
@@ -56,7 +57,7 @@ module _ {job : Query} {places n : ℕ} {t : List ℕ} {i : ℕ} {from : Slot} {
   pub grew-new : {u : List ℕ} {s : Slot} → f ≡ Nothing → slots u ≡ set (slots t) n s → Makes job (newcomer job i from a node node) s → n < places → Grew job places arrived (Held (n + 1)) u
   unfolding grownIs
   grew-new {u} {s} e d m l =
-      let h : n * 160 + 160 ≤ length t = omega (arith, x .running .room) in
+      let h : n * slotBytes + slotBytes ≤ length t = omega (arith, x .running .room) in
       record {
         grows = cases.arrive-new (sys job) places (heldIn job n t) _ _ _ i a (found-held ∙ ap slotOption e) (omega (arith, length-held job n t (room x)))
             ∙ ap goes-on (ap (λ (r : search.Held (sys job)). heldIn job n t ++ (r ∷ [])) (sym (m .stands)) ∙ sym (append-held job t u n s d h));

@@ -2,6 +2,7 @@
 mod made; // made.rt: the slots that arrivals make
 
 use job::access;
+use model::NODE;
 use table::Found;
 use table::Slot;
 use table::lookup;
@@ -36,7 +37,7 @@ fn relax(
     i: usize,
     from: Slot,
     a: u8,
-    node: [u64; 9],
+    node: [u64; NODE],
     j: usize,
 )
     requires { ⌜ Arrives (query (now job)) n (now t) i from a × (j < n) × Workspace (now job) (now work) ⌝ }
@@ -72,7 +73,7 @@ fn arrive(
     i: usize,
     from: Slot,
     a: u8,
-    node: [u64; 9],
+    node: [u64; NODE],
 ) -> Grown
     requires { ⌜ Arriving (query (now job)) places n (now t) i from a × Clean (constraintCount (now job)) node × Workspace (now job) (now work) ⌝ }
     ensures { λ r. ⌜ Grew (query (now (job .entry))) places
@@ -97,11 +98,11 @@ fn arrive(
 }
 
 // Whether two nodes are the same, all words compared. Most that differ do so in the first word, so the loop starts there.
-fn same_node(a: [u64; 9], b: [u64; 9]) -> bool
+fn same_node(a: [u64; NODE], b: [u64; NODE]) -> bool
     ensures { λ r. ⌜ r ≡ sameNumbers a b ⌝ }
 {
     let mut j = 0;
-    while j < 9 {
+    while j < NODE {
         if a[j] != b[j] {
             return false;
         }

@@ -1,4 +1,5 @@
 // The slots that arrivals make: of a new node, and in place of the slot of a node that is held.
+use model::NODE;
 use table::Slot;
 use task::Key;
 ghost use mathlib.Core.Path.{_≡_};
@@ -24,7 +25,7 @@ pub fn key_of(job: &[u8], from: Slot, a: u8) -> Key
 }
 
 // The hint residuals of an arrival at a node.
-fn hints_of(job: &[u8], work: &mut [u64], from: Slot, a: u8, node: [u64; 9]) -> [u64; 8]
+fn hints_of(job: &[u8], work: &mut [u64], from: Slot, a: u8, node: [u64; NODE]) -> [u64; 8]
     requires { ⌜ Extends (query (now job)) from a × Workspace (now job) (now work) ⌝ }
     ensures { λ r. ⌜ Carries (hintCount (now (job .entry))) (hintsBy (query (now (job .entry))) from a node) r × Workspace (now (job .entry)) (now (work .exit)) ⌝ }
 {
@@ -33,7 +34,7 @@ fn hints_of(job: &[u8], work: &mut [u64], from: Slot, a: u8, node: [u64; 9]) -> 
 }
 
 // A slot of its parts, open.
-fn opened(node: [u64; 9], hints: [u64; 8], key: Key, estimate: u64, parent: u64, action: u64, goal: bool) -> Slot
+fn opened(node: [u64; NODE], hints: [u64; 8], key: Key, estimate: u64, parent: u64, action: u64, goal: bool) -> Slot
     ensures { λ r. ⌜ r ≡ openSlot node hints key estimate parent action goal ⌝ }
 {
     Slot {
@@ -50,7 +51,7 @@ fn opened(node: [u64; 9], hints: [u64; 8], key: Key, estimate: u64, parent: u64,
 }
 
 // The slot of a new node; for now every estimate is 0.
-pub fn fresh(job: &[u8], work: &mut [u64], i: usize, from: Slot, a: u8, node: [u64; 9]) -> Slot
+pub fn fresh(job: &[u8], work: &mut [u64], i: usize, from: Slot, a: u8, node: [u64; NODE]) -> Slot
     requires { ⌜ Extends (query (now job)) from a × (i < 65536) × Clean (constraintCount (now job)) node × Workspace (now job) (now work) ⌝ }
     ensures { λ r. ⌜ Makes (query (now (job .entry))) (newcomer (query (now (job .entry))) i from a node node) r × Workspace (now (job .entry)) (now (work .exit)) ⌝ }
 {
@@ -67,7 +68,7 @@ pub fn replaced(
     i: usize,
     from: Slot,
     a: u8,
-    node: [u64; 9],
+    node: [u64; NODE],
     key: Key,
     old: Slot,
 ) -> Slot
@@ -89,7 +90,7 @@ pub fn merged(
     i: usize,
     from: Slot,
     a: u8,
-    node: [u64; 9],
+    node: [u64; NODE],
     old: Slot,
 ) -> Slot
     requires { ⌜ Arrives (query (now job)) n (now t) i from a × Ties (query (now job)) n (now t) from a old × Workspace (now job) (now work) ⌝ }

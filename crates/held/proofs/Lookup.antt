@@ -11,6 +11,7 @@ use Rattle.model.specs.exploration.Key.{Key, less}
 use Rattle.model.specs.job.Layout.{constraintCount}
 use Rattle.model.specs.search.Node.{sameNumbers, sameNode}
 use Rattle.model.specs.search.Query.{Query}
+use Rattle.model.specs.calls.Search.{slotBytes}
 use Rattle.model.proofs.exploration.Each.{All}
 use Rattle.dijkstra.specs.Records as search
 use Rattle.dijkstra.specs.Records.{rankIn, find, leastOpen}
@@ -95,7 +96,7 @@ module _ (job : Query) where
 
   -- ---- where only the slot's number is told
 
-  module _ (n : ℕ) (t : List ℕ) (sound : SoundTo job n t) (room : n * 160 ≤ length t) {f : Found} (e : f ≡ slotOfBest (leastIn (take n (slots t)) 0)) where
+  module _ (n : ℕ) (t : List ℕ) (sound : SoundTo job n t) (room : n * slotBytes ≤ length t) {f : Found} (e : f ≡ slotOfBest (leastIn (take n (slots t)) 0)) where
     -- It is open, and its rank is its own.
     pub least-at : {i : ℕ} → f ≡ At i → leastOpen (sys job) (heldIn job n t) 0 ≡ some (record { slot = i; rank = rankAt (slotAt t i) })
     unfolding slotOfBest

@@ -9,6 +9,7 @@ use Rattle.model.specs.job.Decoding.{jobVerdict}
 use Rattle.model.specs.search.Node.{Node}
 use Rattle.model.specs.search.JobSystem.{startNode}
 use Rattle.model.specs.search.Query.{Query, jobFor}
+use Rattle.model.specs.calls.Search.{slotBytes}
 use Rattle.dijkstra.proofs.Turning.{Ready}
 use Rattle.dijkstra.proofs.Sending.{Expanding}
 use Rattle.table.specs.Slots.{slotAt}
@@ -18,7 +19,7 @@ use Rattle.held.specs.Held.{sys, heldIs, heldIn, SoundTo}
 pub record Running (job : Query) (m0 : Node) (places n : ℕ) (table : List ℕ) : Type 0 where
   pub accepted : jobVerdict (job .bytes) ≡ Fine
   pub starts : startNode (jobFor job) ≡ some m0
-  pub room : places * 160 ≤ length table
+  pub room : places * slotBytes ≤ length table
   pub most : places ≤ 65536
   pub used : n ≤ places
   pub sound : SoundTo job n table

@@ -1,5 +1,8 @@
 // The types that the definitions in specs/ and the code of all crates share.
 
+// The words of a node: a state and the residuals of eight constraints.
+pub const NODE: usize = 9;
+
 // A formula with no operand and no number.
 pub enum Constant {
     False,

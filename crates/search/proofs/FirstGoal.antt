@@ -13,6 +13,7 @@ use Rattle.model.specs.exploration.Explore.{Entry}
 use Rattle.model.specs.logic.Formula.{choose}
 use Rattle.model.specs.search.Node.{Node}
 use Rattle.model.specs.search.Query.{Query}
+use Rattle.model.specs.calls.Search.{slotBytes}
 use Rattle.dijkstra.specs.Records.{Held, Table, pathOf}
 use Rattle.dijkstra.specs.Search.{firstGoal}
 use Rattle.dijkstra.proofs.Invariant.{Inv}
@@ -84,7 +85,7 @@ due-record : (job : Query) (c s : ℕ) (x : Slot) → Sound job x → AtGoal (sy
 unfolding due heldIs
 due-record job c s x h = ap (λ (b : Bool). sameKey (heldIs job x .key) (keyOf c s) && not (sys job .cut (heldIs job x .hints)) && b) (sym (h .marked))
 
-module _ (job : Query) (n : ℕ) (t : List ℕ) (room : n * 160 ≤ length t) (sound : SoundTo job n t) {m0 : Node} {P : Entry (sys job) → Type 0} (inv : Inv (sys job) m0 (heldIn job n t) P) (c s : ℕ) where
+module _ (job : Query) (n : ℕ) (t : List ℕ) (room : n * slotBytes ≤ length t) (sound : SoundTo job n t) {m0 : Node} {P : Entry (sys job) → Type 0} (inv : Inv (sys job) m0 (heldIn job n t) P) (c s : ℕ) where
   abbrev T : Table (sys job)
   T = heldIn job n t
 

@@ -14,6 +14,7 @@ use Rattle.model.specs.exploration.Key.{Key, sameKey}
 use Rattle.model.specs.job.Layout.{hintCount}
 use Rattle.model.specs.search.Node.{someDead}
 use Rattle.model.specs.search.Query.{Query}
+use Rattle.model.specs.calls.Search.{slotBytes}
 use Rattle.model.proofs.exploration.KeyLaws.{same-key}
 use Rattle.model.proofs.Tests.{and-both}
 use Rattle.dijkstra.specs.Search.{someCutIn}
@@ -102,7 +103,7 @@ module _ (job : Query) (t : List ℕ) (n c s i : ℕ) (f : Found) (y : Bool) (te
 
 -- What was found after slot i, which is due, can be compared with it.
 pub comparable : (job : Query) (t : List ℕ) (n i b c s : ℕ) (f : Found) (y : Bool) → y ≡ due job c s (slotAt t i) → not y ≡ false → f ≡ At b → Behind (held t n) (i + 1) c s f
-    → n * 160 ≤ length t → i < n → Level (held t n) n b i
+    → n * slotBytes ≤ length t → i < n → Level (held t n) n b i
 comparable job t n i b c s f y tested h e behind room g =
     let k : Behind (held t n) (i + 1) c s (At b) = rw e at behind in
     let size = length-first t n room in

@@ -16,6 +16,7 @@ use Rattle.model.specs.job.Decoding.{jobVerdict}
 use Rattle.model.specs.search.Node.{Node}
 use Rattle.model.specs.search.JobSystem.{startNode, isGoal, startHints}
 use Rattle.model.specs.search.Query.{Query, jobFor}
+use Rattle.model.specs.calls.Search.{slotBytes}
 use Rattle.dijkstra.specs.Records.{Held}
 use Rattle.dijkstra.specs.Search.{answered, too-small, turns, startTable, searchIn}
 use Rattle.dijkstra.proofs.Turning.{Ready, start-ready}
@@ -47,7 +48,7 @@ module _ (job : Query) (t u node hints : List ℕ) (goal : Bool) (clean : Clean 
   start-record = λ z. record { node = nodeFor job node; key = zeroKey; hints = carried .carries z; parent = 0; action = 0; taken = false }
 
   -- Stored as slot 0, it is the start table.
-  pub begun : slots u ≡ set (slots t) 0 (startSlot node hints goal) → 160 ≤ length t → Begun job node u
+  pub begun : slots u ≡ set (slots t) 0 (startSlot node hints goal) → slotBytes ≤ length t → Begun job node u
   unfolding startTable heldIn
   begun e l = record {
     begins = append-held job t u 0 (startSlot node hints goal) e l ∙ ap (λ (r : Held (sys job)). r ∷ []) start-record;
@@ -56,7 +57,7 @@ module _ (job : Query) (t u node hints : List ℕ) (goal : Bool) (clean : Clean 
 
 -- The search begins with a table between two turns.
 pub begun-idle : {job : Query} {places : ℕ} {u node : List ℕ} → jobVerdict (job .bytes) ≡ Fine → startNode (jobFor job) ≡ some (nodeFor job node) → Begun job node u
-    → places * 160 ≤ length u → places ≤ 65536 → 0 < places → Idle job places 1 u
+    → places * slotBytes ≤ length u → places ≤ 65536 → 0 < places → Idle job places 1 u
 begun-idle {job} {places} {u} {node} fine starts b room most l =
     let m0 : Node = nodeFor job node in (
       m0,

@@ -9,6 +9,7 @@ use lib.ListN.{length, set}
 use Rattle.model.specs.exploration.System.{System}
 use Rattle.model.specs.exploration.Equations.{plan, no-plan}
 use Rattle.model.specs.search.Query.{Query}
+use Rattle.model.specs.calls.Search.{slotBytes}
 use Rattle.dijkstra.specs.Records.{Held, Open, Table, leastOpen, take-it, mark}
 use Rattle.dijkstra.specs.Search.{Result, answered, too-small, Filled, goes-on, full, follow, expand, firstGoal, someCutIn, exhausted, turns}
 use Rattle.dijkstra.proofs.Slots.{Holds, holds-one}
@@ -91,7 +92,7 @@ expand-taken S places t r i (suc c) =
 -- ---- a job's table
 
 -- The slots in use fit into the table, and are chained.
-pub idle-room : {job : Query} {places n : ℕ} {t : List ℕ} → Idle job places n t → n * 160 ≤ length t
+pub idle-room : {job : Query} {places n : ℕ} {t : List ℕ} → Idle job places n t → n * slotBytes ≤ length t
 idle-room d = omega (arith, d .1 .room, d .1 .used)
 
 pub idle-chained : {job : Query} {places n : ℕ} {t : List ℕ} → Idle job places n t → Chained (held t n)
@@ -155,7 +156,7 @@ module _ {job : Query} {places n : ℕ} {t : List ℕ} {i : ℕ} (taking : Takin
   abbrev inside : i < n
   inside = taking .chosen .inside
 
-  room : n * 160 ≤ length t
+  room : n * slotBytes ≤ length t
   room = idle-room (taking .idle)
 
   slot : Holds T i r

@@ -10,6 +10,7 @@ use Rattle.model.specs.job.Decoding.{jobVerdict}
 use Rattle.model.specs.job.Layout.{constraintCount}
 use Rattle.model.specs.search.JobSystem.{startNode}
 use Rattle.model.specs.search.Query.{Query, jobFor}
+use Rattle.model.specs.calls.Search.{slotBytes}
 use Rattle.dijkstra.specs.Records.{leastOpen}
 use Rattle.dijkstra.specs.Search.{Result, answered, too-small, firstGoal, turns, startTable}
 use Rattle.table.specs.Slots.{slotAt}
@@ -26,7 +27,7 @@ use Rattle.search.specs.declared.Turn.the-variants.{On, End}
 -- A table's bytes and what the code says of them are this result. A goal's path can be followed from slot to slot.
 abbrev pub EndsAs : List ℕ → Ended → Result → Type 0
 EndsAs t (ended.Goal g n) res =
-    (n * 160 ≤ length t) × Chained (held t n) × (g < n)
+    (n * slotBytes ≤ length t) × Chained (held t n) × (g < n)
     × (res ≡ answered (plan (slotAt t g .cost) (slotPath (held t n) (stepsAt (held t n) g) g)))
 EndsAs t (ended.NoPlan k) res = res ≡ answered (no-plan k)
 EndsAs t ended.Full res = res ≡ too-small
@@ -54,7 +55,7 @@ pub record Starts (job : Query) (places : ℕ) (node t : List ℕ) : Type 0 wher
   pub starts : startNode (jobFor job) ≡ some (nodeFor job node)
   pub clean : Clean (constraintCount (job .bytes)) node
   pub some-place : 0 < places
-  pub room : places * 160 ≤ length t
+  pub room : places * slotBytes ≤ length t
   pub most : places ≤ 65536
 
 -- The start node, of that array, is in slot 0.

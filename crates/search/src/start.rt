@@ -1,4 +1,5 @@
 // The start of the search: the start node in slot 0, if it is reached and there is a slot.
+use model::NODE;
 use super::Ended;
 use super::turns;
 use table::Slot;
@@ -8,7 +9,7 @@ ghost use mathlib.Core.Path.{_≡_};
 ghost use Prim.Native.Nat.{_≤_};
 ghost use lib.ListN.{length};
 ghost use Rattle.model.specs.declared.Verdict.the-variants.{Fine};
-ghost use Rattle.model.specs.calls.Search.{slotsIn};
+ghost use Rattle.model.specs.calls.Search.{slotsIn, slotBytes};
 ghost use Rattle.model.specs.job.Layout.{constraintCount};
 ghost use Rattle.model.specs.job.Decoding.{jobVerdict};
 ghost use Rattle.model.specs.search.Query.{query};
@@ -19,8 +20,8 @@ ghost use Rattle.progression.specs.Workspace.{Workspace};
 ghost use Rattle.search.specs.Outcome.{EndsAs, Starts, Begun};
 
 // Writes the start node, which has no parent, to slot 0; for now every estimate is 0.
-fn begin(job: &[u8], work: &mut [u64], t: &mut [u8], node: [u64; 9])
-    requires { ⌜ (jobVerdict (now job) ≡ Fine) × Clean (constraintCount (now job)) node × (160 ≤ length (now t)) × Workspace (now job) (now work) ⌝ }
+fn begin(job: &[u8], work: &mut [u64], t: &mut [u8], node: [u64; NODE])
+    requires { ⌜ (jobVerdict (now job) ≡ Fine) × Clean (constraintCount (now job)) node × (slotBytes ≤ length (now t)) × Workspace (now job) (now work) ⌝ }
     ensures { λ _. ⌜ Begun (query (now (job .entry))) node (now (t .exit)) × Workspace (now (job .entry)) (now (work .exit)) ⌝ }
 {
     let hints = nodes::start_hints(job);
@@ -44,7 +45,7 @@ fn begin(job: &[u8], work: &mut [u64], t: &mut [u8], node: [u64; 9])
 }
 
 // The search from the start node, in a table of so many places.
-fn from_start(job: &[u8], work: &mut [u64], t: &mut [u8], places: usize, node: [u64; 9]) -> Ended
+fn from_start(job: &[u8], work: &mut [u64], t: &mut [u8], places: usize, node: [u64; NODE]) -> Ended
     requires { ⌜ Starts (query (now job)) places node (now t) × Workspace (now job) (now work) ⌝ }
     ensures { λ r. ⌜ EndsAs (now (t .exit)) r (searchIn (sys (query (now (job .entry)))) places) ⌝ }
 {
@@ -53,7 +54,7 @@ fn from_start(job: &[u8], work: &mut [u64], t: &mut [u8], places: usize, node: [
 }
 
 // The same in a workspace of its own, which has a memo where that pays.
-fn in_workspace(job: &[u8], t: &mut [u8], places: usize, node: [u64; 9]) -> Ended
+fn in_workspace(job: &[u8], t: &mut [u8], places: usize, node: [u64; NODE]) -> Ended
     requires { ⌜ Starts (query (now job)) places node (now t) ⌝ }
     ensures { λ r. ⌜ EndsAs (now (t .exit)) r (searchIn (sys (query (now (job .entry)))) places) ⌝ }
 {

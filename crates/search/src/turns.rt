@@ -13,6 +13,7 @@ ghost use Rattle.model.specs.declared.Verdict.the-variants.{Fine};
 ghost use Rattle.model.specs.exploration.Equations.{no-plan};
 ghost use Rattle.model.specs.job.Decoding.{jobVerdict};
 ghost use Rattle.model.specs.search.Query.{query};
+ghost use Rattle.model.specs.calls.Search.{slotBytes};
 ghost use Rattle.progression.specs.Workspace.{Workspace};
 ghost use Rattle.dijkstra.specs.Search.{exhausted, turns};
 ghost use Rattle.held.specs.Held.{sys, heldIn};
@@ -21,7 +22,7 @@ ghost use Rattle.search.specs.Outcome.{EndsAs, Turned, Least, Taking};
 
 // The refusal where no slot is open: 11 if some node was cut, else 12.
 fn refusal(job: &[u8], t: &[u8], n: usize) -> u8
-    requires { ⌜ (jobVerdict (now job) ≡ Fine) × (n * 160 ≤ length (now t)) ⌝ }
+    requires { ⌜ (jobVerdict (now job) ≡ Fine) × (n * slotBytes ≤ length (now t)) ⌝ }
     ensures { λ r. ⌜ exhausted (sys (query (now (job .entry)))) (heldIn (query (now (job .entry))) n (now (t .entry))) ≡ no-plan r ⌝ }
 {
     if goals::some_cut(job, t, n) { 11 } else { 12 }

@@ -6,6 +6,8 @@ use lib.ListN.{length, getD, replicate}
 use lib.Dec.{eqb}
 use Rattle.model.specs.Bits.{digit}
 use Rattle.model.specs.job.Job.{listOf}
+use Rattle.model.specs.calls.Search.{slotBytes}
+use Rattle.model.specs.search.Node.{nodeWords}
 use Rattle.table.specs.declared.Slot.{Slot}
 use Rattle.table.specs.Cells.{row}
 
@@ -21,8 +23,8 @@ pub record Narrow (s : Slot) : Type 0 where
 unfoldable pub slotOf : List ℕ → Slot
 unfolding listOf
 slotOf a = record {
-  node = listOf (λ j. getD a j 0) 9;
-  hints = listOf (λ j. getD a (9 + j) 0) 8;
+  node = listOf (λ j. getD a j 0) nodeWords;
+  hints = listOf (λ j. getD a (nodeWords + j) 0) 8;
   cost = getD a 17 0 % 4294967296;
   steps = getD a 17 0 / 4294967296 % 65536;
   estimate = getD a 19 0 % 1073741824;
@@ -41,15 +43,15 @@ flagWord action taken goal = action + digit taken * 256 + digit goal * 512
 -- a row of its parts
 unfoldable pub rowOf : List ℕ → List ℕ → ℕ → ℕ → ℕ → List ℕ
 unfolding listOf
-rowOf node hints key flags estimate = listOf (λ j. getD node j 0) 9 ++ listOf (λ j. getD hints j 0) 8 ++ (key ∷ flags ∷ estimate ∷ [])
+rowOf node hints key flags estimate = listOf (λ j. getD node j 0) nodeWords ++ listOf (λ j. getD hints j 0) 8 ++ (key ∷ flags ∷ estimate ∷ [])
 
 -- all whole slots of the bytes
 unfoldable pub slots : List ℕ → List Slot
-slots l = listOf (λ i. slotOf (row l i)) (length l / 160)
+slots l = listOf (λ i. slotOf (row l i)) (length l / slotBytes)
 
 -- what stands for a slot where there is none
 unfoldable pub noSlot : Slot
-noSlot = record { node = replicate 9 0; hints = replicate 8 0; cost = 0; steps = 0; estimate = 0; parent = 0; action = 0; taken = false; goal = false }
+noSlot = record { node = replicate nodeWords 0; hints = replicate 8 0; cost = 0; steps = 0; estimate = 0; parent = 0; action = 0; taken = false; goal = false }
 
 -- slot i
 abbrev pub slotAt : List ℕ → ℕ → Slot

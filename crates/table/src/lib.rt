@@ -1,5 +1,6 @@
 // A table of slots in bytes that a caller lends. Every operation is an equation on the list of its slots.
-mod cells; // cells.rt: words of 64 bits, and rows of twenty
+use model::NODE;
+mod cells; // cells.rt: words of 64 bits, and rows of them
 mod rows; // rows.rt: a slot as a row
 pub mod slots; // slots.rt: whole slots and their parts, read and written
 pub mod lookup; // lookup.rt: the slot of a node, and the open slot of the least rank
@@ -7,7 +8,7 @@ pub mod lookup; // lookup.rt: the slot of a node, and the open slot of the least
 // What a slot holds: a node, the state and then the residual of each constraint; the residuals of the hints; the key of the least path so
 // far; the estimate of the cost that is left; the slot and the action that it came from; whether it was taken, and whether it is a goal.
 pub struct Slot {
-    pub node: [u64; 9],
+    pub node: [u64; NODE],
     pub hints: [u64; 8],
     pub cost: u64,
     pub steps: u64,

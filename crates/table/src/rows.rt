@@ -1,10 +1,12 @@
 // A slot as a row of twenty words: 0 to 8 the node, 9 to 16 the hints, 17 cost, steps and parent, 18 action, taken and goal, 19 the estimate.
+use model::NODE;
 use super::Slot;
 use super::cells::ROW;
 ghost use mathlib.Core.Path.{_≡_};
 ghost use Prim.Native.Nat.{_<_};
 ghost use lib.ListN.{length};
 ghost use Rattle.model.specs.Bits.{digit};
+ghost use Rattle.model.specs.search.Node.{nodeWords};
 ghost use Rattle.table.specs.Slots.{slotOf, rowOf, keyWord, flagWord, Narrow};
 
 // Word 17 is the cost and the steps and the parent, so many times.
@@ -61,8 +63,8 @@ fn flag_word(action: u64, taken: bool, goal: bool) -> u64
 }
 
 // A row of its parts, which have the lengths that their types say.
-fn line(node: [u64; 9], hints: [u64; 8], key: u64, flags: u64, estimate: u64) -> [u64; ROW]
-    ensures { λ r. ⌜ (r ≡ rowOf node hints key flags estimate) × (length node ≡ 9) × (length hints ≡ 8) ⌝ }
+fn line(node: [u64; NODE], hints: [u64; 8], key: u64, flags: u64, estimate: u64) -> [u64; ROW]
+    ensures { λ r. ⌜ (r ≡ rowOf node hints key flags estimate) × (length node ≡ nodeWords) × (length hints ≡ 8) ⌝ }
 {
     [
         node[0],

@@ -14,6 +14,10 @@ pub record Node : Type 0 where
   pub state : ℕ
   pub residuals : List ℕ
 
+-- the words of a node in memory: a state and the residuals of eight constraints, of 64 bits each
+abbrev pub nodeWords : ℕ
+nodeWords = 9
+
 -- "A rule has at most 6" carried parts.
 abbrev pub mostParts : ℕ
 mostParts = 6
