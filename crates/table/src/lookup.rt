@@ -72,7 +72,9 @@ pub fn estimated_cost(t: &[u8], i: usize) -> u64
     requires { ⌜ i * slotBytes + slotBytes ≤ length (now t) ⌝ }
     ensures { λ r. ⌜ r ≡ slotAt (now (t .entry)) i .cost + slotAt (now (t .entry)) i .estimate ⌝ }
 {
-    slots::cost(t, i) + slots::estimate(t, i)
+    let cost = slots::cost(t, i);
+    let estimate = slots::estimate(t, i);
+    cost + estimate
 }
 
 // The better of the slot i and the best after it; of equal ranks the first.
