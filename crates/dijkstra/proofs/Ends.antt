@@ -108,8 +108,8 @@ module _ (S : System) (laws : Laws S) where
             let p : s .source ≡ q = source-is S (x .expanding) s e in
             let d : z .key ≡ extend (q .key) (S .cost (s .action)) = ap (λ (w : Entry S). w .key) (s .is) ∙ ap (λ (r : Held S). extend (r .key) (S .cost (s .action))) p in
             let c : S .estimate (q .node) ≤ S .cost (s .action) + S .estimate (z .node) =
-                subst (λ (r : Held S). S .estimate (r .node) ≤ S .cost (s .action) + S .estimate (z .node)) p
-                (laws .consistent (s .source .node) (z .node) (s .action) (s .inRange) (s .leads)) in
+            subst (λ (r : Held S). S .estimate (r .node) ≤ S .cost (s .action) + S .estimate (z .node)) p
+            (laws .consistent (s .source .node) (z .node) (s .action) (s .inRange) (s .leads)) in
             absurd (not-below (rankIn S q) _ (rank-step (q .key) (S .cost (s .action)) _ _ c) (subst (λ (k : Key). Le (rankOf S (z .node) k) (rankIn S q)) d l)),
       )
 

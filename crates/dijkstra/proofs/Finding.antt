@@ -1,4 +1,4 @@
--- What is found in a table: the slot of a node, the first open slot of the least key, a cut node, and the number of taken slots.
+-- What is found in a table: the slot of a node, the first open slot of the least rank, a cut node, and the number of taken slots.
 use mathlib.Core.Path.{_≡_, refl, sym, ap, _∙_, subst}
 use Prim.Native.Nat.{ℕ, zero, suc, _+_}
 use native.Mathlib.Omega.{arith}
@@ -53,7 +53,7 @@ module _ (S : System) where
       go none e = absurd (true≢false (sym (laws .same-refl (r .node)) ∙ find-none (r .node) t e i r h))
       go (some j) e = let f = find-some (r .node) t e in e ∙ ap some (sym (alone j (f .0) (f .1) (laws .same-eq _ _ (f .2))))
 
-  -- ---- the first open slot of the least key
+  -- ---- the first open slot of the least rank
 
   -- what `leastOpen` has of a table whose slots are numbered from k on
   abbrev LeastOf : Table S → ℕ → Option Open → Type 0

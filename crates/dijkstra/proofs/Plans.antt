@@ -1,4 +1,4 @@
--- A goal found at the least open key is the answer.
+-- A goal whose key is the least open rank is the answer.
 use mathlib.Core.Path.{_≡_, refl, sym, ap, _∙_, subst}
 use Prim.Native.Nat.{ℕ, zero, suc}
 use native.Mathlib.Omega.{arith}
@@ -46,7 +46,7 @@ module _ (S : System) (laws : Laws S) {m0 : S .Node} (starts : Starts S m0) {t :
   uncut-path (suc n) i r h e c l =
       let d = steps-linked S inv i r h e in
       let lt : Lt (rankIn S (d .source)) (rankIn S r) = subst (λ (z : Key). Lt (rankIn S (d .source)) (rankOf S (r .node) z)) (sym (d .keyIs))
-          (rank-step (d .source .key) (S .cost (r .action)) _ _ (laws .consistent (d .source .node) (r .node) (r .action) (d .inRange) (d .leads))) in
+      (rank-step (d .source .key) (S .cost (r .action)) _ _ (laws .consistent (d .source .node) (r .node) (r .action) (d .inRange) (d .leads))) in
       let p = uncut-path n (r .parent) (d .source) (d .held) (omega (arith, linked-steps S d)) (d .uncut) (le-trans _ _ _ (lt-le _ _ lt) l) in
       path-cast S (sym (path-suc S t n i h)) refl (sym (d .keyIs)) (onward (r .action) p (d .inRange) (d .leads) (r .hints, (i, r, h, refl, d .keyIs, refl, subst (λ (z : Key). Le (rankOf S (r .node) z) k) (d .keyIs) l), c))
 
@@ -112,7 +112,7 @@ module _ (S : System) (laws : Laws S) {m0 : S .Node} (starts : Starts S m0) {t :
       first = plan-first;
     }
 
-    -- The first path to an uncut goal of the least open key is the answer.
+    -- The first path to an uncut goal whose key is the least open rank is the answer.
     pub plan-right : Finite S → solve S ≡ plan (k .cost) p
     unfolding plan-of
     plan-right fin = plan-is S laws fin (up-to k) L solves plan-of (subst (λ (z : Key). Le z k) (sym (best .0 .3 .0)) (le-refl k))

@@ -34,7 +34,15 @@ fn hints_of(job: &[u8], work: &mut [u64], from: Slot, a: u8, node: [u64; NODE]) 
 }
 
 // A slot of its parts, open.
-fn opened(node: [u64; NODE], hints: [u64; 8], key: Key, estimate: u64, parent: u64, action: u64, goal: bool) -> Slot
+fn opened(
+    node: [u64; NODE],
+    hints: [u64; 8],
+    key: Key,
+    estimate: u64,
+    parent: u64,
+    action: u64,
+    goal: bool,
+) -> Slot
     ensures { λ r. ⌜ r ≡ openSlot node hints key estimate parent action goal ⌝ }
 {
     Slot {

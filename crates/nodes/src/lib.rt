@@ -191,7 +191,13 @@ pub fn start_hints(job: &[u8]) -> [u64; 8]
 }
 
 // What the hints leave at the node that action i led to.
-pub fn next_hints(job: &[u8], work: &mut [u64], hints: [u64; 8], node: [u64; NODE], i: u8) -> [u64; 8]
+pub fn next_hints(
+    job: &[u8],
+    work: &mut [u64],
+    hints: [u64; 8],
+    node: [u64; NODE],
+    i: u8,
+) -> [u64; 8]
     requires { ⌜ (jobVerdict (now job) ≡ Fine) × (i < actionCount (now job)) × Workspace (now job) (now work) ⌝ }
     ensures { λ r. ⌜ Carries (hintCount (now (job .entry)))
         (carryHints (jobOf (now (job .entry))) (hintsIs (hintCount (now (job .entry))) hints) (nodeIs (constraintCount (now (job .entry))) node) i) r

@@ -1,7 +1,7 @@
 // The start of the search: the start node in slot 0, if it is reached and there is a slot.
-use model::NODE;
 use super::Ended;
 use super::turns;
+use model::NODE;
 use table::Slot;
 use table::slots;
 use task::Key;

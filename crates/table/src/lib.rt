@@ -1,5 +1,6 @@
 // A table of slots in bytes that a caller lends. Every operation is an equation on the list of its slots.
 use model::NODE;
+
 mod cells; // cells.rt: words of 64 bits, and rows of them
 mod rows; // rows.rt: a slot as a row
 pub mod slots; // slots.rt: whole slots and their parts, read and written

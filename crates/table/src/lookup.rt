@@ -1,11 +1,10 @@
 // Slots looked up: the slot of a node, and the open slot of the least rank.
-use model::NODE;
 use super::Best;
 use super::Found;
 use super::cells;
 use super::cells::ROW;
 use super::slots;
-use task::Key;
+use model::NODE;
 ghost use mathlib.Core.Path.{_≡_};
 ghost use Prim.Native.Nat.{_+_, _*_, _≤_};
 ghost use lib.ListN.{length, take};

@@ -1,7 +1,7 @@
 // A slot as a row of twenty words: 0 to 8 the node, 9 to 16 the hints, 17 cost, steps and parent, 18 action, taken and goal, 19 the estimate.
-use model::NODE;
 use super::Slot;
 use super::cells::ROW;
+use model::NODE;
 ghost use mathlib.Core.Path.{_≡_};
 ghost use Prim.Native.Nat.{_<_};
 ghost use lib.ListN.{length};
