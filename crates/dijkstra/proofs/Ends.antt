@@ -1,17 +1,17 @@
 -- The other ends of a search: nothing is open, or the table is full.
 use mathlib.Core.Path.{_≡_, refl, sym, ap, _∙_, subst}
-use Prim.Native.Nat.{ℕ, zero, suc, _+_, _≤_, _<_}
+use Prim.Native.Nat.{ℕ, zero, suc, _<_}
 use native.Mathlib.Omega.{arith}
 use mathlib.Core.Bool.{Bool, true, false, true≢false}
 use mathlib.Core.Option.{some}
 use mathlib.Core.List.{List, [], _∷_, map}
 use lib.ListN.{length, length-map}
-use Rattle.model.specs.exploration.Key.{Key, zeroKey, extend, Le}
+use Rattle.model.specs.exploration.Key.{Key, zeroKey, Le, Lt}
 use Rattle.model.specs.exploration.System.{System, rankOf}
 use Rattle.model.specs.exploration.Equations.{up-to, unbounded, Entries, Starts, Explores, NoGoal, some-cut, none-cut}
 use Rattle.model.specs.exploration.Explore.{Entry, Of, reached, solve}
 use Rattle.model.proofs.exploration.Stepping.{arrives-by}
-use Rattle.model.proofs.exploration.KeyLaws.{le-trans, not-below, rank-step}
+use Rattle.model.proofs.exploration.KeyLaws.{le-trans, not-below}
 use Rattle.model.proofs.exploration.Laws.{Laws, Finite}
 use Rattle.model.proofs.exploration.Each.{All}
 use Rattle.model.proofs.exploration.Counting.{Apart}
@@ -22,7 +22,7 @@ use Rattle.dijkstra.specs.Records.{Held, Table, rankIn}
 use Rattle.dijkstra.specs.Search.{someCutIn, exhausted}
 use Rattle.dijkstra.proofs.Slots.{Holds, holds-one, all-held}
 use Rattle.dijkstra.proofs.Finding.{some-cut-in, none-cut-in}
-use Rattle.dijkstra.proofs.Invariant.{Sent, Inv, Barren, start-least}
+use Rattle.dijkstra.proofs.Invariant.{Sent, Inv, Barren, start-least, sent-rank}
 use Rattle.dijkstra.proofs.Sending.{Before, source-is}
 use Rattle.dijkstra.proofs.Following.{Crowded}
 use Rattle.dijkstra.proofs.Solution.{Up, up-solves}
@@ -106,11 +106,7 @@ module _ (S : System) (laws : Laws S) where
         s,
         λ e.
             let p : s .source ≡ q = source-is S (x .expanding) s e in
-            let d : z .key ≡ extend (q .key) (S .cost (s .action)) = ap (λ (w : Entry S). w .key) (s .is) ∙ ap (λ (r : Held S). extend (r .key) (S .cost (s .action))) p in
-            let c : S .estimate (q .node) ≤ S .cost (s .action) + S .estimate (z .node) =
-            subst (λ (r : Held S). S .estimate (r .node) ≤ S .cost (s .action) + S .estimate (z .node)) p
-            (laws .consistent (s .source .node) (z .node) (s .action) (s .inRange) (s .leads)) in
-            absurd (not-below (rankIn S q) _ (rank-step (q .key) (S .cost (s .action)) _ _ c) (subst (λ (k : Key). Le (rankOf S (z .node) k) (rankIn S q)) d l)),
+            absurd (not-below (rankIn S q) _ (subst (λ (r : Held S). Lt (rankIn S r) (rankOf S (z .node) (z .key))) p (sent-rank S laws s)) l),
       )
 
       solves : Explores S (up-to (rankIn S q)) (Up S t (up-to (rankIn S q)))
@@ -122,7 +118,8 @@ module _ (S : System) (laws : Laws S) where
       taken-reached : (s : ℕ) (r : Held S) → Holds t s r → r .taken ≡ true → R (r .node) (r .key) (r .hints)
       taken-reached s r h y =
           let l = x .expanding .top s r h y in
-          unique S laws (up-to (rankIn S q)) (Up S t (up-to (rankIn S q))) R solves (up-to-key (rankIn S q)) (r .node) (r .key) (r .hints) l (s, r, h, refl, refl, refl, l)
+          unique S laws (up-to (rankIn S q)) (Up S t (up-to (rankIn S q))) R solves (up-to-key (rankIn S q)) (r .node) (r .key) (r .hints) l
+          (s, r, h, refl, refl, refl, l)
 
       -- A node to which an action leads from a taken record that is not cut is reached.
       next-reached : (s : ℕ) (r : Held S) → Holds t s r → r .taken ≡ true → S .cut (r .hints) ≡ false → (a : ℕ) → a < S .actions → {n : S .Node} → S .step (r .node) a ≡ some n → (k : Key) × (g : S .Hints) × R n k g

@@ -101,9 +101,11 @@ module _ (S : System) where
       to : (o : Option Open) → leastOpen S (x ∷ t) k ≡ o → LeastOf (x ∷ t) k o → LeastOf (x ∷ t) k (leastOpen S (x ∷ t) k)
       to o e h = subst (LeastOf (x ∷ t) k) (sym e) h
 
-      less-go : (o : Open) (a : Bool) → less (o .rank) (rankIn S x) ≡ a → x .taken ≡ false → leastOpen S t (suc k) ≡ some o → LeastOf t (suc k) (some o) → LeastOf (x ∷ t) k (leastOpen S (x ∷ t) k)
+      less-go : (o : Open) (a : Bool) → less (o .rank) (rankIn S x) ≡ a → x .taken ≡ false → leastOpen S t (suc k) ≡ some o → LeastOf t (suc k) (some o)
+          → LeastOf (x ∷ t) k (leastOpen S (x ∷ t) k)
       less-go o true l e f h = to (some o) (rw (e, leastOpen, f, l) refl) (behind x t k o (lt-le _ _ (less-yes _ _ l)) h)
-      less-go o false l e f h = to (some (record { slot = k; rank = rankIn S x })) (rw (e, leastOpen, f, l) refl) (front x t k e (λ d r p g. le-trans _ _ _ (less-no _ _ l) (h .1 d r p g)))
+      less-go o false l e f h = to (some (record { slot = k; rank = rankIn S x })) (rw (e, leastOpen, f, l) refl)
+          (front x t k e (λ d r p g. le-trans _ _ _ (less-no _ _ l) (h .1 d r p g)))
 
       go : (a : Bool) → x .taken ≡ a → (o : Option Open) → leastOpen S t (suc k) ≡ o → LeastOf t (suc k) (leastOpen S t (suc k)) → LeastOf (x ∷ t) k (leastOpen S (x ∷ t) k)
       go true e o f ih = to (leastOpen S t (suc k)) (rw (e, leastOpen) refl) (skip-taken x t k e (leastOpen S t (suc k)) ih)
@@ -116,7 +118,8 @@ module _ (S : System) where
 
   -- The least open slot is open, and its rank is least.
   pub least-some : (t : Table S) {o : Open} → leastOpen S t 0 ≡ some o
-      → (r : Held S) × Holds t (o .slot) r × (r .taken ≡ false) × (o .rank ≡ rankIn S r) × ((i : ℕ) (q : Held S) → Holds t i q → q .taken ≡ false → Le (o .rank) (rankIn S q))
+      → (r : Held S) × Holds t (o .slot) r × (r .taken ≡ false) × (o .rank ≡ rankIn S r) ×
+      ((i : ℕ) (q : Held S) → Holds t i q → q .taken ≡ false → Le (o .rank) (rankIn S q))
   least-some t {o} e =
       let f = rw e at (least-of t 0) in
       let q : f .0 .0 ≡ o .slot = omega (arith, f .0 .3) in

@@ -52,7 +52,8 @@ module _ (S : System) (laws : Laws S) (slots : ℕ) where
 
   module _ {m0 : S .Node} {t : Table S} {i : ℕ} {q : Held S} {c : ℕ} (x : Expanding S m0 t i q c) (b : c < S .actions) where
     -- The next state of an expansion, from its invariant.
-    onwards : (u : Table S) → Keeps S t u → Keeps S u t → (length t ≤ slots → length u ≤ slots) → Inv S m0 u (Before S u i (suc c)) → Followed m0 t i q (suc c) u
+    onwards : (u : Table S) → Keeps S t u → Keeps S u t → (length t ≤ slots → length u ≤ slots) → Inv S m0 u (Before S u i (suc c))
+        → Followed m0 t i q (suc c) u
     onwards u keeps back room inv = record {
       expanding = record {
         inv = inv;

@@ -81,6 +81,16 @@ module _ (S : System) where
   unfolding extend
   linked-steps l = ap (λ (k : Key). k .steps) (l .keyIs)
 
+  -- The record that an action leads from has a lesser rank than the one that it leads to.
+  pub linked-rank : Laws S → {t : Table S} {r : Held S} (l : Linked t r) → Lt (rankIn S (l .source)) (rankIn S r)
+  linked-rank laws {r = r} l = subst (λ (k : Key). Lt (rankIn S (l .source)) (rankOf S (r .node) k)) (sym (l .keyIs))
+      (rank-step (l .source .key) (S .cost (r .action)) _ _ (laws .consistent (l .source .node) (r .node) (r .action) (l .inRange) (l .leads)))
+
+  -- So has the record that an arrival comes from.
+  pub sent-rank : Laws S → {t : Table S} {x : Entry S} (z : Sent t x) → Lt (rankIn S (z .source)) (rankOf S (x .node) (x .key))
+  sent-rank laws {x = x} z = subst (λ (k : Key). Lt (rankIn S (z .source)) (rankOf S (x .node) k)) (sym (ap (λ (y : Entry S). y .key) (z .is)))
+      (rank-step (z .source .key) (S .cost (z .action)) _ _ (laws .consistent (z .source .node) (x .node) (z .action) (z .inRange) (z .leads)))
+
   -- A path of one more action goes by the parent.
   pub path-suc : (t : Table S) (n i : ℕ) {r : Held S} → Holds t i r → pathOf S t (suc n) i ≡ pathOf S t n (r .parent) ++ (r .action ∷ [])
   unfolding pathOf
@@ -115,8 +125,7 @@ module _ (S : System) where
     start-least laws (suc n) i r h e =
         let l = steps-linked i r h e in
         let ih = start-least laws n (r .parent) (l .source) (l .held) (omega (arith, linked-steps l)) in
-        le-trans _ _ _ ih (subst (λ (k : Key). Le (rankIn S (l .source)) (rankOf S (r .node) k)) (sym (l .keyIs))
-        (lt-le _ _ (rank-step (l .source .key) (S .cost (r .action)) _ _ (laws .consistent (l .source .node) (r .node) (r .action) (l .inRange) (l .leads)))))
+        le-trans _ _ _ ih (lt-le _ _ (linked-rank laws l))
 
     -- A path has as many actions as its record's key says.
     pub path-length : (n i : ℕ) (r : Held S) → Holds t i r → r .key .steps ≡ n → length (pathOf S t n i) ≡ n

@@ -85,13 +85,17 @@ module _ (S : System) (m0 : S .Node) where
         go (inr e) = here e
 
     put-order : (a b : ℕ) (r q : Held S) → Holds u a r → Holds u b q → r .taken ≡ true → q .taken ≡ false → Le (rankIn S r) (rankIn S q)
-    put-order a b r q h k = put-each (f .put) (λ a r. (b : ℕ) (q : Held S) → Holds u b q → r .taken ≡ true → q .taken ≡ false → Le (rankIn S r) (rankIn S q)) at-new at-old a r h b q k
+    put-order a b r q h k = put-each (f .put)
+        (λ a r. (b : ℕ) (q : Held S) → Holds u b q → r .taken ≡ true → q .taken ≡ false → Le (rankIn S r) (rankIn S q)) at-new at-old a r h b q k
       where
         at-new : (b : ℕ) (q : Held S) → Holds u b q → v .taken ≡ true → q .taken ≡ false → Le (rankIn S v) (rankIn S q)
-        at-new = put-each (f .put) (λ b q. v .taken ≡ true → q .taken ≡ false → Le (rankIn S v) (rankIn S q)) (λ y n. absurd (true≢false (sym y ∙ n))) (λ s r m h y n. f .below y s r h n)
+        at-new = put-each (f .put) (λ b q. v .taken ≡ true → q .taken ≡ false → Le (rankIn S v) (rankIn S q)) (λ y n. absurd (true≢false (sym y ∙ n)))
+            (λ s r m h y n. f .below y s r h n)
 
-        at-old : (s : ℕ) (r : Held S) → (s ≡ j → ⊥) → Holds t s r → (b : ℕ) (q : Held S) → Holds u b q → r .taken ≡ true → q .taken ≡ false → Le (rankIn S r) (rankIn S q)
-        at-old s r n h = put-each (f .put) (λ b q. r .taken ≡ true → q .taken ≡ false → Le (rankIn S r) (rankIn S q)) (λ y o. f .above o s r h y) (λ b q m k y o. inv .order s b r q h k y o)
+        at-old : (s : ℕ) (r : Held S) → (s ≡ j → ⊥) → Holds t s r → (b : ℕ) (q : Held S) → Holds u b q → r .taken ≡ true → q .taken ≡ false
+            → Le (rankIn S r) (rankIn S q)
+        at-old s r n h = put-each (f .put) (λ b q. r .taken ≡ true → q .taken ≡ false → Le (rankIn S r) (rankIn S q)) (λ y o. f .above o s r h y)
+            (λ b q m k y o. inv .order s b r q h k y o)
 
     pub put-inv : Inv S m0 u Q
     put-inv = record {

@@ -7,12 +7,12 @@ use mathlib.Core.Option.{some}
 use mathlib.Core.List.{List, [], _∷_, _++_}
 use mathlib.Core.Logic.{inl}
 use lib.ListN.{length}
-use Rattle.model.specs.exploration.Key.{Key, zeroKey, Le, Lt, First}
+use Rattle.model.specs.exploration.Key.{Key, zeroKey, Le, First}
 use Rattle.model.specs.exploration.System.{System, rankOf}
 use Rattle.model.specs.exploration.Equations.{up-to, plan, Entries, Starts, Explores, Uncut, Path, begin, onward, Plan}
 use Rattle.model.specs.exploration.Explore.{solve}
 use Rattle.model.proofs.exploration.Stepping.{arrives-by}
-use Rattle.model.proofs.exploration.KeyLaws.{le-refl, le-trans, lt-le, extend-not-zero, rank-step, rank-zero, first-trans, first-snoc}
+use Rattle.model.proofs.exploration.KeyLaws.{le-refl, le-trans, lt-le, extend-not-zero, rank-zero, first-trans, first-snoc}
 use Rattle.model.proofs.exploration.Laws.{Laws, Finite}
 use Rattle.model.proofs.exploration.Paths.{path-end, path-steps, path-cast}
 use Rattle.model.proofs.exploration.Answered.{plan-is}
@@ -20,7 +20,7 @@ use Rattle.dijkstra.specs.Records.{Held, Table, rankIn, pathOf}
 use Rattle.dijkstra.specs.Search.{firstGoal}
 use Rattle.dijkstra.proofs.Slots.{Holds, holds-one}
 use Rattle.dijkstra.proofs.Goals.{AtGoal, goal-some}
-use Rattle.dijkstra.proofs.Invariant.{Sent, Inv, Barren, linked-steps, path-suc, steps-linked, zero-slot, path-length, sized}
+use Rattle.dijkstra.proofs.Invariant.{Sent, Inv, Barren, linked-steps, path-suc, steps-linked, zero-slot, path-length, sized, linked-rank}
 use Rattle.dijkstra.proofs.Solution.{Up, as-sent, as-sent-key, was-made, start-node, up-solves}
 
 module _ (S : System) (laws : Laws S) {m0 : S .Node} (starts : Starts S m0) {t : Table S} (inv : Inv S m0 t (Sent S t)) (k : Key)
@@ -37,18 +37,21 @@ module _ (S : System) (laws : Laws S) {m0 : S .Node} (starts : Starts S m0) {t :
 
   -- ---- the path of an uncut record is a path
 
-  uncut-path : (n i : ℕ) (r : Held S) → Holds t i r → r .key .steps ≡ n → S .cut (r .hints) ≡ false → Le (rankIn S r) k → Path S L (pathOf S t n i) (r .node) (r .key)
+  uncut-path : (n i : ℕ) (r : Held S) → Holds t i r → r .key .steps ≡ n → S .cut (r .hints) ≡ false → Le (rankIn S r) k
+      → Path S L (pathOf S t n i) (r .node) (r .key)
   unfolding pathOf
   uncut-path zero i r h e c l =
       let at0 : Holds t 0 r = subst (λ (z : ℕ). Holds t z r) (zero-slot S inv i r h e) h in
       let key : r .key ≡ zeroKey = ap (λ (z : Held S). z .key) (holds-one t 0 at0 (inv .begun .1)) ∙ inv .begun .2 .1 in
-      path-cast S refl refl (sym key) (begin (start-node S laws starts inv (up-to k) beyond begins (λ x z w. z) r at0 refl) (r .hints, (0, r, at0, refl, key, refl, subst (λ (z : Key). Le (rankOf S (r .node) z) k) key l), c))
+      path-cast S refl refl (sym key)
+      (begin (start-node S laws starts inv (up-to k) beyond begins (λ x z w. z) r at0 refl)
+      (r .hints, (0, r, at0, refl, key, refl, subst (λ (z : Key). Le (rankOf S (r .node) z) k) key l), c))
   uncut-path (suc n) i r h e c l =
       let d = steps-linked S inv i r h e in
-      let lt : Lt (rankIn S (d .source)) (rankIn S r) = subst (λ (z : Key). Lt (rankIn S (d .source)) (rankOf S (r .node) z)) (sym (d .keyIs))
-      (rank-step (d .source .key) (S .cost (r .action)) _ _ (laws .consistent (d .source .node) (r .node) (r .action) (d .inRange) (d .leads))) in
-      let p = uncut-path n (r .parent) (d .source) (d .held) (omega (arith, linked-steps S d)) (d .uncut) (le-trans _ _ _ (lt-le _ _ lt) l) in
-      path-cast S (sym (path-suc S t n i h)) refl (sym (d .keyIs)) (onward (r .action) p (d .inRange) (d .leads) (r .hints, (i, r, h, refl, d .keyIs, refl, subst (λ (z : Key). Le (rankOf S (r .node) z) k) (d .keyIs) l), c))
+      let p = uncut-path n (r .parent) (d .source) (d .held) (omega (arith, linked-steps S d)) (d .uncut) (le-trans _ _ _ (lt-le _ _ (linked-rank S laws d)) l) in
+      path-cast S (sym (path-suc S t n i h)) refl (sym (d .keyIs))
+      (onward (r .action) p (d .inRange) (d .leads)
+      (r .hints, (i, r, h, refl, d .keyIs, refl, subst (λ (z : Key). Le (rankOf S (r .node) z) k) (d .keyIs) l), c))
 
   -- ---- and the first of its node and key
 
@@ -64,7 +67,8 @@ module _ (S : System) (laws : Laws S) {m0 : S .Node} (starts : Starts S m0) {t :
       go v ih =
           let x = arrives-by S L a (v .1) b (v .2) s in
           let sent = was-made S laws starts inv (up-to k) beyond begins (λ y z w. z) x (u .1 .6) in
-          let f = (inv .gathers i r h away) .first (as-sent S laws starts inv (up-to k) beyond begins (λ y z w. z) x) sent (sym en, as-sent-key S laws starts inv (up-to k) beyond begins (λ y z w. z) x ∙ sym ek) in
+          let f = (inv .gathers i r h away) .first (as-sent S laws starts inv (up-to k) beyond begins (λ y z w. z) x) sent
+          (sym en, as-sent-key S laws starts inv (up-to k) beyond begins (λ y z w. z) x ∙ sym ek) in
           let o = v .1 .1 in
           let l : length (pathOf S t (o .key .steps) (v .1 .0)) ≡ length p = path-length S inv (o .key .steps) (v .1 .0) o (v .1 .2) refl ∙ ap (λ (z : Key). z .steps) (v .1 .4) ∙ path-steps S q in
           first-trans _ _ _ f (first-snoc _ p a l (ih (v .1 .0) o (v .1 .2) (v .1 .3) (v .1 .4)))
@@ -106,7 +110,8 @@ module _ (S : System) (laws : Laws S) {m0 : S .Node} (starts : Starts S m0) {t :
       node = r .node;
       key = r .key;
       costIs = ap (λ (z : Key). z .cost) (best .0 .3 .0);
-      path = path-cast S (sym (best .0 .4)) refl refl (uncut-path (k .steps) (best .0 .0) r (best .0 .2) (ap (λ (z : Key). z .steps) (best .0 .3 .0)) (best .0 .3 .1) goal-rank);
+      path = path-cast S (sym (best .0 .4)) refl refl
+          (uncut-path (k .steps) (best .0 .0) r (best .0 .2) (ap (λ (z : Key). z .steps) (best .0 .3 .0)) (best .0 .3 .1) goal-rank);
       goal = best .0 .3 .2;
       least = plan-least;
       first = plan-first;

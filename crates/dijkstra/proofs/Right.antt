@@ -65,7 +65,8 @@ module _ (S : System) (slots : ℕ) where
       turn (some o) e = goal (firstGoal S t (o .rank) t 0) refl
         where
           goal : (p : Option (List ℕ)) → firstGoal S t (o .rank) t 0 ≡ p → Right (turns S slots (suc n) t)
-          goal (some p) f = rw (e, turns, f) (inl (ap answered (sym (plan-right S laws starts (ready .inv) (o .rank) (past S slots ready e) (begins o e) (ready .barren) f fin))))
+          goal (some p) f = rw (e, turns, f)
+              (inl (ap answered (sym (plan-right S laws starts (ready .inv) (o .rank) (past S slots ready e) (begins o e) (ready .barren) f fin))))
           goal none f = let r = least-some S t e in taking o e f (r .0) (r .1) (S .cut (r .0 .hints)) refl
 
     pub turns-right : (n : ℕ) → Turns n

@@ -5,17 +5,17 @@ use native.Mathlib.Omega.{arith}
 use mathlib.Core.Bool.{Bool, true, false}
 use mathlib.Core.Option.{some}
 use mathlib.Core.Logic.{_⊎_, inl, inr, _↔_}
-use Rattle.model.specs.exploration.Key.{Key, zeroKey, extend, rank, Le, Lt}
+use Rattle.model.specs.exploration.Key.{Key, zeroKey, extend, Le, Lt}
 use Rattle.model.specs.exploration.System.{System, rankOf}
 use Rattle.model.specs.exploration.Equations.{Bound, up-to, unbounded, Within, Entries, Starts, Arrives, Explores}
 use Rattle.model.specs.exploration.Explore.{Entry}
-use Rattle.model.proofs.exploration.KeyLaws.{le-trans, lt-le, le-lt-trans, not-below, lt-or-le, rank-step, rank-le, unrank-lt, unrank-le}
+use Rattle.model.proofs.exploration.KeyLaws.{le-trans, lt-le, le-lt-trans, not-below, lt-or-le, rank-le, unrank-lt, unrank-le}
 use Rattle.model.proofs.exploration.Laws.{Laws}
 use Rattle.model.proofs.exploration.Uniqueness.{within-below, arrives-rank}
 use Rattle.model.proofs.exploration.Arrivals.{To}
 use Rattle.dijkstra.specs.Records.{Held, Table, rankIn}
 use Rattle.dijkstra.proofs.Slots.{Holds, holds-one}
-use Rattle.dijkstra.proofs.Invariant.{entry, Linked, Sent, Gathers, Inv, low-at}
+use Rattle.dijkstra.proofs.Invariant.{entry, Linked, Sent, Gathers, Inv, low-at, linked-rank, sent-rank}
 
 -- A rank within the bound is below one that is not.
 within-or : (B : Bound) (j k : Key) → Within B j → Within B k ⊎ Lt j k
@@ -44,7 +44,8 @@ module _ (S : System) where
       as-sent = To S (entry S t (a .entry .0) source) n (a .action)
 
       source-rank : Lt (rankIn S source) (rankOf S n k)
-      source-rank = subst (λ (m : S .Node). Lt (rankOf S m (source .key)) (rankOf S n k)) (sym (a .entry .3)) (subst (λ (z : Key). Lt (rankOf S (a .source) z) (rankOf S n k)) (sym (a .entry .4)) (arrives-rank S laws a))
+      source-rank = subst (λ (m : S .Node). Lt (rankOf S m (source .key)) (rankOf S n k)) (sym (a .entry .3))
+          (subst (λ (z : Key). Lt (rankOf S (a .source) z) (rankOf S n k)) (sym (a .entry .4)) (arrives-rank S laws a))
 
       pub as-sent-key : as-sent .key ≡ k
       as-sent-key = ap (λ (z : Key). extend z (S .cost (a .action))) (a .entry .4) ∙ sym (a .keyIs)
@@ -76,7 +77,7 @@ module _ (S : System) where
     sent-arrives : (x : Entry S) (z : Sent S t x) → Within B (rankOf S (x .node) (x .key)) → Arrives S (Up t B) (x .node) (x .key) (x .hints)
     sent-arrives x z w =
         let e : x .key ≡ extend (z .source .key) (S .cost (z .action)) = ap (λ (y : Entry S). y .key) (z .is) in
-        let l : Lt (rankIn S (z .source)) (rankOf S (x .node) (x .key)) = subst (λ (k : Key). Lt (rankIn S (z .source)) (rankOf S (x .node) k)) (sym e) (rank-step (z .source .key) (S .cost (z .action)) _ _ (laws .consistent (z .source .node) (x .node) (z .action) (z .inRange) (z .leads))) in
+        let l = sent-rank S laws z in
         record {
           source = z .source .node;
           key = z .source .key;
@@ -90,9 +91,10 @@ module _ (S : System) where
           hintsAre = ap (λ (y : Entry S). y .hints) (z .is);
         }
 
-    pub linked-arrives : (r : Held S) (l : Linked S t r) → Within B (rankIn S r) → Arrives S (Up t B) (r .node) (r .key) (S .carry (l .source .hints) (r .node) (r .action))
+    pub linked-arrives : (r : Held S) (l : Linked S t r) → Within B (rankIn S r)
+        → Arrives S (Up t B) (r .node) (r .key) (S .carry (l .source .hints) (r .node) (r .action))
     linked-arrives r l w =
-        let lt : Lt (rankIn S (l .source)) (rankIn S r) = subst (λ (k : Key). Lt (rankIn S (l .source)) (rankOf S (r .node) k)) (sym (l .keyIs)) (rank-step (l .source .key) (S .cost (r .action)) _ _ (laws .consistent (l .source .node) (r .node) (r .action) (l .inRange) (l .leads))) in
+        let lt = linked-rank S laws l in
         record {
           source = l .source .node;
           key = l .source .key;
@@ -127,8 +129,20 @@ module _ (S : System) where
 
     solve-complete : {n : S .Node} {k : Key} {h : S .Hints} → Within B (rankOf S n k) → Arrives S (Up t B) n k h → (j : Key) × (g : S .Hints) × Up t B n j g
     solve-complete {n} {k} w a =
-        let o = inv .low (as-sent a) (was-made a w) in
-        (o .1 .key, o .1 .hints, (o .0, o .1, o .2, o .3, refl, refl, within-below B _ _ (rank-le (o .1 .key) k (S .estimate n) (subst (Le (o .1 .key)) (as-sent-key a) (o .4))) w))
+        let o = inv .low (as-sent a) (was-made a w) in (
+          o .1 .key,
+          o .1 .hints,
+          (
+            o .0,
+            o .1,
+            o .2,
+            o .3,
+            refl,
+            refl,
+            within-below B _ _
+                (rank-le (o .1 .key) k (S .estimate n) (subst (Le (o .1 .key)) (as-sent-key a) (o .4))) w,
+          ),
+        )
 
     solve-arrived : {n : S .Node} {k : Key} {h : S .Hints} → Up t B n k h → Starts S n ⊎ ((g : S .Hints) × Arrives S (Up t B) n k g)
     solve-arrived {n} {k} {h} l = go (l .0) (l .2)
@@ -137,7 +151,11 @@ module _ (S : System) where
         go zero p = inl (start-node (l .1) p (l .3))
         go (suc i) p =
             let d = inv .linked (suc i) (l .1) p (λ z. omega arith) in
-            inr (S .carry (d .source .hints) (l .1 .node) (l .1 .action), moved (l .3) (l .4) (linked-arrives (l .1) d (within-at (l .1 .node) n (l .1 .key) k (l .3) (l .4) (l .6))))
+            inr (
+              S .carry (d .source .hints) (l .1 .node) (l .1 .action),
+              moved (l .3) (l .4)
+                  (linked-arrives (l .1) d (within-at (l .1 .node) n (l .1 .key) k (l .3) (l .4) (l .6))),
+            )
 
     solve-least : {n : S .Node} {j k : Key} {g h : S .Hints} → Up t B n j g → Arrives S (Up t B) n k h → Le j k
     solve-least {n} {j} {k} l a = go (source a .taken) refl
@@ -150,7 +168,8 @@ module _ (S : System) where
 
         go : (y : Bool) → source a .taken ≡ y → Le j k
         go true e = made-least (within-or B (rankOf S n j) (rankOf S n k) (l .6)) e
-        go false e = unrank-le j k (S .estimate n) (le-trans _ _ _ (past (a .entry .0) (source a) (a .entry .2) e (rankOf S n j) (l .6)) (lt-le _ _ (source-rank a)))
+        go false e = unrank-le j k (S .estimate n)
+            (le-trans _ _ _ (past (a .entry .0) (source a) (a .entry .2) e (rankOf S n j) (l .6)) (lt-le _ _ (source-rank a)))
 
     solve-conjoined : {n : S .Node} {k : Key} {h : S .Hints} → (Starts S n → ⊥) → Up t B n k h → (s : S .Setting)
         → (S .trueAt h s ≡ true) ↔ ((g : S .Hints) → Arrives S (Up t B) n k g → S .trueAt g s ≡ true)
@@ -162,7 +181,9 @@ module _ (S : System) where
         by : (i : ℕ) → Gathers S P (entry S t i (l .1)) → (S .trueAt h s ≡ true) ↔ ((g : S .Hints) → Arrives S (Up t B) n k g → S .trueAt g s ≡ true)
         by i q = (
           λ y g a. true-of (as-sent-hints a) ((q .conjoined s) .0 (true-of (sym (l .5)) y) (as-sent a) (was-made a (l .6)) (sym (l .3), as-sent-key a ∙ sym (l .4))),
-          λ f. true-of (l .5) ((q .conjoined s) .1 (λ x p m. f (x .hints) (moved (m .0 ∙ l .3) (m .1 ∙ l .4) (sent-arrives x (inv .sent x p) (within-at (x .node) n (x .key) k (m .0 ∙ l .3) (m .1 ∙ l .4) (l .6)))))),
+          λ f. true-of (l .5) ((q .conjoined s) .1
+              (λ x p m. f (x .hints) (moved (m .0 ∙ l .3) (m .1 ∙ l .4)
+              (sent-arrives x (inv .sent x p) (within-at (x .node) n (x .key) k (m .0 ∙ l .3) (m .1 ∙ l .4) (l .6)))))),
         )
 
         go : (i : ℕ) → Holds t i (l .1) → (S .trueAt h s ≡ true) ↔ ((g : S .Hints) → Arrives S (Up t B) n k g → S .trueAt g s ≡ true)

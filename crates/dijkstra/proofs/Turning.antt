@@ -82,7 +82,8 @@ module _ (S : System) (slots : ℕ) where
       below s p h a = subst (λ (k : Key). Le k (rankIn S p)) key (past s p h a)
 
       no-goal : S .cut (r .hints) ≡ false → S .goal (r .node) ≡ true → ⊥
-      no-goal c g = goal-none S (o .rank) t (sized S (ready .inv) (o .rank)) noGoal (o .slot) r held (sym (key ∙ rank-zero (r .key) (S .estimate (r .node)) (laws .at-goal (r .node) g)), c, g)
+      no-goal c g = goal-none S (o .rank) t (sized S (ready .inv) (o .rank)) noGoal (o .slot) r held
+          (sym (key ∙ rank-zero (r .key) (S .estimate (r .node)) (laws .at-goal (r .node) g)), c, g)
 
       is-set : u ≡ set t (o .slot) (take-it S r)
       is-set = mark-is S t (o .slot) held
@@ -112,7 +113,11 @@ module _ (S : System) (slots : ℕ) where
 
       -- An uncut slot is taken: its expansion begins.
       pub turn-uncut : S .cut (r .hints) ≡ false → Expanding S m0 u (o .slot) (take-it S r) 0 × (length u ≤ slots)
-      turn-uncut c = (subst (λ (v : Table S). Expanding S m0 v (o .slot) (take-it S r) 0) (sym is-set) (take-uncut S (ready .inv) (o .slot) r held open′ below c), same-room)
+      turn-uncut c = (
+        subst (λ (v : Table S). Expanding S m0 v (o .slot) (take-it S r) 0) (sym is-set)
+            (take-uncut S (ready .inv) (o .slot) r held open′ below c),
+        same-room,
+      )
 
       -- what a turn that expands the slot comes to
       abbrev pub Turned : Filled S → Type 0

@@ -38,7 +38,8 @@ use Rattle.expansion.proofs.Arrival.{room, held-slot}
 
 -- ---- one arrival
 
-module _ {job : Query} {places n : ℕ} {t : List ℕ} {i : ℕ} {from : Slot} {a : ℕ} (x : Arriving job places n t i from a) (node : List ℕ) (clean : Clean (constraintCount (job .bytes)) node) {f : Found} (found : f ≡ findIn node (take n (slots t)) 0) where
+module _ {job : Query} {places n : ℕ} {t : List ℕ} {i : ℕ} {from : Slot} {a : ℕ} (x : Arriving job places n t i from a) (node : List ℕ)
+    (clean : Clean (constraintCount (job .bytes)) node) {f : Found} (found : f ≡ findIn node (take n (slots t)) 0) where
   abbrev arrived : Filled (sys job)
   arrived = arrive (sys job) places (heldIn job n t) (nodeFor job node) (keyBy job from a) (hintsBy job from a node) i a
 
@@ -99,7 +100,8 @@ module _ {job : Query} {places n : ℕ} {t : List ℕ} {i : ℕ} {from : Slot} {
 
   -- It leads to a node, and the table grows as by the arrival there.
   pub grew-to : {r : Grown} {u : List ℕ} → to .alive ≡ true
-      → Grew job places (arrive (sys job) places (heldIn job n t) (nodeFor job (to .node)) (keyBy job from a) (hintsBy job from a (to .node)) i a) r u → Grew job places followed r u
+      → Grew job places (arrive (sys job) places (heldIn job n t) (nodeFor job (to .node)) (keyBy job from a) (hintsBy job from a (to .node)) i a) r u
+      → Grew job places followed r u
   unfolding heldIs
   grew-to e g = record {
     grows = cases.follow-some (sys job) places (heldIs job from) i (heldIn job n t) a (leads-some leads e) ∙ g .grows;

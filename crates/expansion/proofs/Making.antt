@@ -29,7 +29,8 @@ met-carries n a b e p k l = record {
 
 module _ (job : Query) where
   -- One action more makes a key that fits.
-  pub key-reached : (from : Slot) (a c : ℕ) (r : code.Key) → keyIs r ≡ extend (record { cost = from .cost; steps = from .steps }) c → Costs (jobFor job) a c → Extends job from a
+  pub key-reached : (from : Slot) (a c : ℕ) (r : code.Key) → keyIs r ≡ extend (record { cost = from .cost; steps = from .steps }) c → Costs (jobFor job) a c
+      → Extends job from a
       → Reaches (keyBy job from a) r
   unfolding extend
   key-reached from a c r e k x =
@@ -38,13 +39,22 @@ module _ (job : Query) where
       record { is = e ∙ ap (extend (record { cost = from .cost; steps = from .steps })) (k .costs); summed = omega arith; short = omega arith }
 
   -- A slot of right parts.
-  pub opened-makes : jobVerdict (job .bytes) ≡ Fine → (node hints : List ℕ) (key : code.Key) (estimate parent action : ℕ) (goal : Bool) {k : Key} {h : List ℕ} {s : Slot}
-      → s ≡ openSlot node hints key estimate parent action goal → Reaches k key → Carries (hintCount (job .bytes)) h hints → Clean (constraintCount (job .bytes)) node
+  pub opened-makes : jobVerdict (job .bytes) ≡ Fine
+      → (node hints : List ℕ) (key : code.Key) (estimate parent action : ℕ) (goal : Bool) {k : Key} {h : List ℕ} {s : Slot}
+      → s ≡ openSlot node hints key estimate parent action goal → Reaches k key → Carries (hintCount (job .bytes)) h hints → Clean
+      (constraintCount (job .bytes)) node
       → goal ≡ isGoal (jobFor job) (nodeFor job node) → estimate ≡ sys job .estimate (nodeFor job node) → parent < 65536 → action < 256
       → Makes job (record { node = nodeFor job node; key = k; hints = h; parent = parent; action = action; taken = false }) s
   unfolding heldIs
   opened-makes fine node hints key estimate parent action goal e r c n g left p a = rw e (record {
     stands = λ d. record { node = nodeFor job node; key = r .is d; hints = c .carries d; parent = parent; action = action; taken = false };
-    sound = record { clean = n; cleanHints = c .clean; marked = g; estimated = left; summed = r .summed };
-    narrow = record { cost = omega arith; steps = r .short; estimate = omega (arith, left, estimate-narrow job fine (nodeFor job node)); parent = p; action = a };
+    sound = record { clean = n; cleanHints = c .clean; marked = g; estimated = left; summed = r .summed; short = r .short };
+    narrow = record {
+      cost = omega arith;
+      steps = r .short;
+      estimate = omega
+          (arith, left, estimate-narrow job fine (nodeFor job node));
+      parent = p;
+      action = a;
+    };
   })

@@ -22,7 +22,8 @@ use Rattle.expansion.proofs.Cases.{tied-new, tied-old}
 use Rattle.expansion.proofs.Making.{met-carries, opened-makes}
 use Rattle.expansion.proofs.Arrival.{bytes-slot, sound-slot, compared}
 
-module _ {job : Query} {places n : ℕ} {t : List ℕ} {i : ℕ} {from : Slot} {a : ℕ} (x : Arriving job places n t i from a) {old : Slot} (ties : Ties job n t from a old) where
+module _ {job : Query} {places n : ℕ} {t : List ℕ} {i : ℕ} {from : Slot} {a : ℕ} (x : Arriving job places n t i from a) {old : Slot}
+    (ties : Ties job n t from a old) where
   -- The old slot is sound and within its widths, and its key is kept.
   old-sound : Sound job old
   old-sound = subst (Sound job) (sym (ties .is)) (sound-slot x (ties .slot) (ties .inside))
@@ -46,7 +47,8 @@ module _ {job : Query} {places n : ℕ} {t : List ℕ} {i : ℕ} {from : Slot} {
     unfolding heldIs
     makes-merged p b e l m =
         opened-makes job (x .running .accepted) (old .node) hints _ (old .estimate) p b (old .goal) e key-kept
-        (met-carries (hintCount (job .bytes)) (old .hints) g met (old-sound .cleanHints) carried (few-hints job (x .running .accepted))) (old-sound .clean) (old-sound .marked) (old-sound .estimated) l m
+        (met-carries (hintCount (job .bytes)) (old .hints) g met (old-sound .cleanHints) carried (few-hints job (x .running .accepted))) (old-sound .clean)
+        (old-sound .marked) (old-sound .estimated) l m
 
     -- Where the new path comes first, the merged record has its parent and action.
     pub merged-new : {s : Slot} {b : Bool} → s ≡ stored hints i a → b ≡ orderBy (held t n) i a (old .parent) (old .action) → b ≡ true

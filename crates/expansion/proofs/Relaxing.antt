@@ -20,7 +20,8 @@ use Rattle.expansion.specs.Arrivals.{keyBy, hintsBy, newcomer, Arriving,
 use Rattle.expansion.proofs.Cases.{relaxed-taken, relaxed-less, relaxed-same, relaxed-more}
 use Rattle.expansion.proofs.Arrival.{held-slot}
 
-module _ {job : Query} {places n : ℕ} {t : List ℕ} {i : ℕ} {from : Slot} {a : ℕ} (x : Arriving job places n t i from a) (node : List ℕ) (j : ℕ) (l : j < n) where
+module _ {job : Query} {places n : ℕ} {t : List ℕ} {i : ℕ} {from : Slot} {a : ℕ} (x : Arriving job places n t i from a) (node : List ℕ) (j : ℕ)
+    (l : j < n) where
   abbrev Relaxed : List ℕ → Type 0
   Relaxed u = Relaxes job n t i from a node j u
 

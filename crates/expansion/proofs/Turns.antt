@@ -47,7 +47,8 @@ pub record Going (job : Query) (places n0 : ℕ) (t0 : List ℕ) (i : ℕ) (from
   pub followed : expand (sys job) places (heldIn job n0 t0) (heldIs job from) i a ≡ goes-on (heldIn job n t)
 
 -- At first, none was.
-pub going-start : {job : Query} {places n : ℕ} {t : List ℕ} {i : ℕ} {from : Slot} → Busy job places n t i 0 → from ≡ slotAt t i → Going job places n t i from n t 0
+pub going-start : {job : Query} {places n : ℕ} {t : List ℕ} {i : ℕ} {from : Slot} → Busy job places n t i 0 → from ≡ slotAt t i
+    → Going job places n t i from n t 0
 unfolding expand
 going-start {job} {places} {n} {t} {i} b e =
     subst (λ (s : Slot). Going job places n t i s n t 0) (sym e)

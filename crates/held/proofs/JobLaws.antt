@@ -1,6 +1,6 @@
 -- The system of a job that is asked for: it meets the laws of exploration, and its counts are those of the bytes.
 use mathlib.Core.Path.{_≡_}
-use Prim.Native.Nat.{ℕ, _≤_, _<_}
+use Prim.Native.Nat.{_≤_, _<_}
 use native.Mathlib.Omega.{arith}
 use Rattle.model.specs.declared.Verdict.the-variants.{Fine}
 use Rattle.model.specs.job.Layout.{actionCount, constraintCount, hintCount}

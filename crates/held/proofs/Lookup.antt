@@ -60,7 +60,8 @@ module _ (job : Query) where
         go false e ih = let q = sym same ∙ e in rw (e, findIn, q, find) ih
 
     -- The slot of a node, among n sound slots.
-    pub find-held : (n : ℕ) (t : List ℕ) → SoundTo job n t → find (sys job) (nodeFor job node) (heldIn job n t) 0 ≡ slotOption (findIn node (take n (slots t)) 0)
+    pub find-held : (n : ℕ) (t : List ℕ) → SoundTo job n t
+        → find (sys job) (nodeFor job node) (heldIn job n t) 0 ≡ slotOption (findIn node (take n (slots t)) 0)
     find-held n t h = rw (held-map job n t) (find-all (take n (slots t)) h 0)
 
   -- ---- the open slot of the least rank
@@ -84,11 +85,20 @@ module _ (job : Query) where
           here = Open k (s .cost + s .estimate) (s .steps)
 
           first : Bool → Key → Option search.Open
-          first b z = elim b as (λ y. Option search.Open) [ false ↦ some (record { slot = k; rank = z }) | true ↦ some (record { slot = i; rank = keyOf c n }) ]
+          first b z = elim b as (λ y. Option search.Open) [
+            | false ↦ some (record { slot = k; rank = z })
+            | true ↦ some
+                (record { slot = i; rank = rankOfNumber r })
+          ]
 
-          same : (b : Bool) → first b (rankAt s) ≡ bestOption (choose b (Open i c n) here)
-          same true = refl
-          same false = refl
+          tested : ltb r (rankNumber s) ≡ less (rankOfNumber r) (rankOfNumber (rankNumber s))
+          tested = number-less r s (h .0 .short) ∙ ap (less (rankOfNumber r)) (sym (number-rank s (h .0 .short)))
+
+          same : (b : Bool) → b ≡ less (rankOfNumber r) (rankOfNumber (rankNumber s))
+              → first (less (rankOfNumber r) (rankOfNumber (rankNumber s))) (rankOfNumber (rankNumber s)) ≡ bestOption
+              (choose b (Open i r) (Open k (rankNumber s)))
+          same true d = rw (← d)
+          same false d = rw (← d)
 
   -- The open slot of the least rank, among n sound slots.
   pub least-held : (n : ℕ) (t : List ℕ) → SoundTo job n t → leastOpen (sys job) (heldIn job n t) 0 ≡ bestOption (leastIn (take n (slots t)) 0)
@@ -96,7 +106,8 @@ module _ (job : Query) where
 
   -- ---- where only the slot's number is told
 
-  module _ (n : ℕ) (t : List ℕ) (sound : SoundTo job n t) (room : n * slotBytes ≤ length t) {f : Found} (e : f ≡ slotOfBest (leastIn (take n (slots t)) 0)) where
+  module _ (n : ℕ) (t : List ℕ) (sound : SoundTo job n t) (room : n * slotBytes ≤ length t) {f : Found}
+      (e : f ≡ slotOfBest (leastIn (take n (slots t)) 0)) where
     -- It is open, and its rank is its own.
     pub least-at : {i : ℕ} → f ≡ At i → leastOpen (sys job) (heldIn job n t) 0 ≡ some (record { slot = i; rank = rankAt (slotAt t i) })
     unfolding slotOfBest
@@ -109,7 +120,8 @@ module _ (job : Query) where
             let l : leastOpen (sys job) (heldIn job n t) 0 ≡ some (record { slot = j; rank = keyOf c k }) = least-held n t sound ∙ ap bestOption d in
             let m = least-some (sys job) (heldIn job n t) l in
             let h = held-is job n t j (m .1) in
-            let y : keyOf c k ≡ rankAt (slotAt t j) = m .3 ∙ ap (rankIn (sys job)) (h .1) ∙ held-rank (slotAt t j) (sound-at job n t sound j (h .0) room) in
+            let y : rankOfNumber r ≡ rankAt (slotAt t j) = m .3 ∙ ap (rankIn (sys job)) (h .1) ∙ held-rank (slotAt t j)
+            (sound-at job n t sound j (h .0) room) in
             rw p at (l ∙ ap (λ (z : Key). some (record { slot = j; rank = z })) y)
         go NoOpen d = let w : Nothing ≡ At i = sym (ap slotOfBest d) ∙ sym e ∙ q in let z : _≡_ {A = ℕ} 0 1 = cc in absurd (omega arith)
 

@@ -102,7 +102,8 @@ module _ (S : System) where
 
 -- ---- the same of slots
 
-module _ (job : Query) {m0 : Node} (n : ℕ) (t : List ℕ) {P : Entry (sys job) → Type 0} (inv : Inv (sys job) m0 (heldIn job n t) P) (room : n * slotBytes ≤ length t) where
+module _ (job : Query) {m0 : Node} (n : ℕ) (t : List ℕ) {P : Entry (sys job) → Type 0} (inv : Inv (sys job) m0 (heldIn job n t) P)
+    (room : n * slotBytes ≤ length t) where
   -- Slot i is taken, and another is open or free: one step more has 16 bits.
   pub next-fits : {places : ℕ} (i : ℕ) → i < n → slotAt t i .taken ≡ true → ((j : ℕ) × (j < n) × (slotAt t j .taken ≡ false)) ⊎ (n < places) → n ≤ places → places ≤ 65536
       → slotAt t i .steps + 1 < 65536

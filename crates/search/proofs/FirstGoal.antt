@@ -85,7 +85,8 @@ due-record : (job : Query) (c s : ℕ) (x : Slot) → Sound job x → AtGoal (sy
 unfolding due heldIs
 due-record job c s x h = ap (λ (b : Bool). sameKey (heldIs job x .key) (keyOf c s) && not (sys job .cut (heldIs job x .hints)) && b) (sym (h .marked))
 
-module _ (job : Query) (n : ℕ) (t : List ℕ) (room : n * slotBytes ≤ length t) (sound : SoundTo job n t) {m0 : Node} {P : Entry (sys job) → Type 0} (inv : Inv (sys job) m0 (heldIn job n t) P) (c s : ℕ) where
+module _ (job : Query) (n : ℕ) (t : List ℕ) (room : n * slotBytes ≤ length t) (sound : SoundTo job n t) {m0 : Node} {P : Entry (sys job) → Type 0}
+    (inv : Inv (sys job) m0 (heldIn job n t) P) (c s : ℕ) where
   abbrev T : Table (sys job)
   T = heldIn job n t
 

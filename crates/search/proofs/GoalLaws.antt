@@ -48,7 +48,8 @@ module _ (job : Query) (c s : ℕ) (x : Slot) where
       go false = refl
 
   -- A slot of that cost and number of steps is loaded and looked at: it is not due if it is cut.
-  module _ (v w : ℕ) (ev : v ≡ x .cost) (ew : w ≡ x .steps) (ec : v ≡ c) (es : w ≡ s) (z : Slot) (loaded : z ≡ x) (d : Bool) (cut : d ≡ someDead (hintsIs (hintCount (job .bytes)) (z .hints))) where
+  module _ (v w : ℕ) (ev : v ≡ x .cost) (ew : w ≡ x .steps) (ec : v ≡ c) (es : w ≡ s) (z : Slot) (loaded : z ≡ x) (d : Bool)
+      (cut : d ≡ someDead (hintsIs (hintCount (job .bytes)) (z .hints))) where
     is-cut : someDead (hintsIs (hintCount (job .bytes)) (x .hints)) ≡ d
     is-cut = sym (cut ∙ ap (λ (y : Slot). someDead (hintsIs (hintCount (job .bytes)) (y .hints))) loaded)
 
@@ -102,7 +103,8 @@ module _ (job : Query) (t : List ℕ) (n c s i : ℕ) (f : Found) (y : Bool) (te
   chosen-here b o p h q e = rw (q, sym tested ∙ not-false y h, ← p, e)
 
 -- What was found after slot i, which is due, can be compared with it.
-pub comparable : (job : Query) (t : List ℕ) (n i b c s : ℕ) (f : Found) (y : Bool) → y ≡ due job c s (slotAt t i) → not y ≡ false → f ≡ At b → Behind (held t n) (i + 1) c s f
+pub comparable : (job : Query) (t : List ℕ) (n i b c s : ℕ) (f : Found) (y : Bool) → y ≡ due job c s (slotAt t i) → not y ≡ false → f ≡ At b
+    → Behind (held t n) (i + 1) c s f
     → n * slotBytes ≤ length t → i < n → Level (held t n) n b i
 comparable job t n i b c s f y tested h e behind room g =
     let k : Behind (held t n) (i + 1) c s (At b) = rw e at behind in

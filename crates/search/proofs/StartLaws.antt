@@ -37,13 +37,22 @@ use Rattle.search.specs.Outcome.{EndsAs, Begun}
 abbrev pub startSlot : List ℕ → List ℕ → Bool → Slot
 startSlot node hints goal = record { node = node; hints = hints; cost = 0; steps = 0; estimate = 0; parent = 0; action = 0; taken = false; goal = goal }
 
-module _ (job : Query) (t u node hints : List ℕ) (goal : Bool) (clean : Clean (constraintCount (job .bytes)) node) (carried : Carries (hintCount (job .bytes)) (startHints (jobFor job)) hints)
+module _ (job : Query) (t u node hints : List ℕ) (goal : Bool) (clean : Clean (constraintCount (job .bytes)) node)
+    (carried : Carries (hintCount (job .bytes)) (startHints (jobFor job)) hints)
     (marked : goal ≡ isGoal (jobFor job) (nodeFor job node)) where
   -- It is sound, and stands for the first record of the start table.
   start-sound : Sound job (startSlot node hints goal)
   start-sound = record { clean = clean; cleanHints = carried .clean; marked = marked; estimated = refl; summed = omega arith }
 
-  start-record : heldIs job (startSlot node hints goal) ≡ record { node = nodeFor job node; key = zeroKey; hints = startHints (jobFor job); parent = 0; action = 0; taken = false }
+  start-record : heldIs job (startSlot node hints goal) ≡ record {
+    node = nodeFor job node;
+    key = zeroKey;
+    hints = startHints
+        (jobFor job);
+    parent = 0;
+    action = 0;
+    taken = false;
+  }
   unfolding heldIs zeroKey
   start-record = λ z. record { node = nodeFor job node; key = zeroKey; hints = carried .carries z; parent = 0; action = 0; taken = false }
 
@@ -56,7 +65,8 @@ module _ (job : Query) (t u node hints : List ℕ) (goal : Bool) (clean : Clean 
   }
 
 -- The search begins with a table between two turns.
-pub begun-idle : {job : Query} {places : ℕ} {u node : List ℕ} → jobVerdict (job .bytes) ≡ Fine → startNode (jobFor job) ≡ some (nodeFor job node) → Begun job node u
+pub begun-idle : {job : Query} {places : ℕ} {u node : List ℕ} → jobVerdict (job .bytes) ≡ Fine → startNode (jobFor job) ≡ some (nodeFor job node)
+    → Begun job node u
     → places * slotBytes ≤ length u → places ≤ 65536 → 0 < places → Idle job places 1 u
 begun-idle {job} {places} {u} {node} fine starts b room most l =
     let m0 : Node = nodeFor job node in (
@@ -81,7 +91,8 @@ module _ (S : System) (places : ℕ) where
   search-turns e l = by-start S places e ∙ rw (lt-ltb 0 places l) refl
 
 -- What the turns end as, the search does.
-pub begun-ends : {job : Query} {u node : List ℕ} {places slots : ℕ} (t : List ℕ) (r : Ended) → Begun job node u → startNode (jobFor job) ≡ some (nodeFor job node)
+pub begun-ends : {job : Query} {u node : List ℕ} {places slots : ℕ} (t : List ℕ) (r : Ended) → Begun job node u
+    → startNode (jobFor job) ≡ some (nodeFor job node)
     → EndsAs t r (turns (sys job) places (suc places) (heldIn job 1 u)) → places ≡ slots → 0 < places → EndsAs t r (searchIn (sys job) slots)
 begun-ends {job} {u} {node} {places} {slots} t r b starts h e l =
     subst (EndsAs t r) (ap (turns (sys job) places (suc places)) (b .begins) ∙ sym (search-turns (sys job) places starts l) ∙ ap (searchIn (sys job)) e) h

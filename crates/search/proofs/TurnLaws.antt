@@ -123,7 +123,8 @@ module _ (job : Query) (places n : ℕ) (t : List ℕ) where
     unfolding turns
     turns-over d = sym (ap (λ (x : ℕ). turns (sys job) places x (heldIn job n t)) (sym d) ∙ rest)
 
-module _ {job : Query} {places n : ℕ} {t : List ℕ} (idle : Idle job places n t) {i : ℕ} (l : Least job n t i) (c s : ℕ) (ec : c ≡ slotAt t i .cost + slotAt t i .estimate) (es : s ≡ slotAt t i .steps)
+module _ {job : Query} {places n : ℕ} {t : List ℕ} (idle : Idle job places n t) {i : ℕ} (l : Least job n t i) (c s : ℕ)
+    (ec : c ≡ slotAt t i .cost + slotAt t i .estimate) (es : s ≡ slotAt t i .steps)
     (f : Found) (found : f ≡ firstDue job c s (held t n) (held t n) 0) where
   abbrev S : System
   S = sys job
@@ -146,7 +147,8 @@ module _ {job : Query} {places n : ℕ} {t : List ℕ} (idle : Idle job places n
   none-takes e = record { idle = idle; chosen = l; noGoal = goals ∙ ap (pathFound (held t n) s) e }
 
 -- Slot i is taken: the table is u then.
-module _ {job : Query} {places n : ℕ} {t : List ℕ} {i : ℕ} (taking : Taking job places n t i) (u : List ℕ) (marked : slots u ≡ set (slots t) i (takenSlot (slotAt t i))) (size : length u ≡ length t) where
+module _ {job : Query} {places n : ℕ} {t : List ℕ} {i : ℕ} (taking : Taking job places n t i) (u : List ℕ)
+    (marked : slots u ≡ set (slots t) i (takenSlot (slotAt t i))) (size : length u ≡ length t) where
   abbrev T : Table (sys job)
   T = heldIn job n t
 
@@ -181,7 +183,8 @@ module _ {job : Query} {places n : ℕ} {t : List ℕ} {i : ℕ} (taking : Takin
   -- A slot that is not cut is expanded.
   module _ (c : sys job .cut (r .hints) ≡ false) where
     expanding : Expanding (sys job) (taking .idle .0) (heldIn job n u) i (take-it (sys job) r) 0
-    expanding = subst (λ (v : Table (sys job)). Expanding (sys job) (taking .idle .0) v i (take-it (sys job) r) 0) (sym same) (turn-uncut (sys job) places (taking .idle .2) (taking .chosen .least) slot (taking .noGoal) (sys-laws job) c .0)
+    expanding = subst (λ (v : Table (sys job)). Expanding (sys job) (taking .idle .0) v i (take-it (sys job) r) 0) (sym same)
+        (turn-uncut (sys job) places (taking .idle .2) (taking .chosen .least) slot (taking .noGoal) (sys-laws job) c .0)
 
     now-taken : take-it (sys job) r ≡ heldIs job (slotAt u i)
     now-taken = holds-one (heldIn job n u) i (expanding .held) (held-at job n u i inside (omega (arith, room)))

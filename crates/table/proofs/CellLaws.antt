@@ -130,7 +130,8 @@ unfolding row
 row-at l i j h = getD-listOf (λ k. word l (i * rowWords + k)) rowWords j 0 h
 
 -- Twenty words written are a row, and no other row is changed.
-pub row-set : (l t a : List ℕ) (i : ℕ) → t ≡ withWords l (i * rowWords) a rowWords → length a ≡ rowWords → ((j : ℕ) → j < rowWords → getD a j 0 < 2 ^ 64) → i * slotBytes + slotBytes ≤ length l → RowSet l t i a
+pub row-set : (l t a : List ℕ) (i : ℕ) → t ≡ withWords l (i * rowWords) a rowWords → length a ≡ rowWords → ((j : ℕ) → j < rowWords → getD a j 0 < 2 ^ 64)
+    → i * slotBytes + slotBytes ≤ length l → RowSet l t i a
 unfolding row
 row-set l t a i q e b h = rw q (here, other)
   where

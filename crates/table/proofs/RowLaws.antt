@@ -76,7 +76,8 @@ slot-again s r k f q ek ef en eh w =
     rw (q, ek, ef) (rw (listOf-elements (s .node) nodeWords en, listOf-elements (s .hints) 8 eh, ec, es, ee, ep, ea, et, eg))
 
 -- A row whose word 18 alone is changed so is that of the slot, taken.
-pub slot-marked : (l t : List ℕ) → ((j : ℕ) → j < rowWords → j ≢ 18 → getD t j 0 ≡ getD l j 0) → getD t 18 0 ≡ markWord (getD l 18 0) → slotOf t ≡ takenSlot (slotOf l)
+pub slot-marked : (l t : List ℕ) → ((j : ℕ) → j < rowWords → j ≢ 18 → getD t j 0 ≡ getD l j 0) → getD t 18 0 ≡ markWord (getD l 18 0)
+    → slotOf t ≡ takenSlot (slotOf l)
 unfolding slotOf takenSlot
 slot-marked l t h e =
     let a : markWord (getD l 18 0) % 256 ≡ getD l 18 0 % 256 = omega arith in

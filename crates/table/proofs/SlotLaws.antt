@@ -90,7 +90,8 @@ slot-narrow l i h = slot-read l (row l i) i (slotAt l i) (slot-at l i h) refl h 
 -- ---- one slot changed
 
 -- A row set, all others as they were, sets a slot.
-pub slots-set : (l t a : List ℕ) (i : ℕ) (s : Slot) → RowSet l t i a → slotOf a ≡ s → length t ≡ length l → i * slotBytes + slotBytes ≤ length l → slots t ≡ set (slots l) i s
+pub slots-set : (l t a : List ℕ) (i : ℕ) (s : Slot) → RowSet l t i a → slotOf a ≡ s → length t ≡ length l → i * slotBytes + slotBytes ≤ length l
+    → slots t ≡ set (slots l) i s
 slots-set l t a i s q e n h =
     ext-getD noSlot (slots t) (set (slots l) i s) (omega (arith, length-slots t, length-slots l, length-set (slots l) i s))
     (λ m g. go m (slot-bytes t m g) (ℕ-discrete m i))
@@ -103,10 +104,12 @@ slots-set l t a i s q e n h =
         slot-at t m g ∙ ap slotOf (q .1 m d) ∙ sym (slot-at l m (omega arith)) ∙ sym (getD-set-other (slots l) i m s noSlot d)
 
 -- A slot is marked by its word 18.
-pub slots-marked : (l t : List ℕ) (i v w : ℕ) → w ≡ word l (i * rowWords + 18) → t ≡ withWord l (i * rowWords + 18) v → v ≡ markWord w → v < 2 ^ 64 → i * slotBytes + slotBytes ≤ length l
+pub slots-marked : (l t : List ℕ) (i v w : ℕ) → w ≡ word l (i * rowWords + 18) → t ≡ withWord l (i * rowWords + 18) v → v ≡ markWord w → v < 2 ^ 64
+    → i * slotBytes + slotBytes ≤ length l
     → slots t ≡ set (slots l) i (takenSlot (slotAt l i))
 slots-marked l t i v w ew et ev b h =
-    slots-set l t (row t i) i (takenSlot (slotAt l i)) (refl, other) (slot-marked (row l i) (row t i) beside here ∙ ap takenSlot (sym (slot-at l i h))) (ap length et ∙ length-word l (i * rowWords + 18) v) h
+    slots-set l t (row t i) i (takenSlot (slotAt l i)) (refl, other) (slot-marked (row l i) (row t i) beside here ∙ ap takenSlot (sym (slot-at l i h)))
+    (ap length et ∙ length-word l (i * rowWords + 18) v) h
   where
     other : (m : ℕ) → m ≢ i → row t m ≡ row l m
     other m d = row-words l t m (λ j g. ap (λ (x : List ℕ). word x (m * rowWords + j)) et ∙ word-other l (i * rowWords + 18) (m * rowWords + j) v (omega arith))

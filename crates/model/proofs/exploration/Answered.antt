@@ -48,7 +48,8 @@ module _ (S : System) where
   -- ---- sets that agree up to a key have the same plans up to it
 
   module _ (laws : Laws S) (B : Bound) (L M : Entries S) (to : (n : S .Node) (k : Key) (h : S .Hints) → Within B (rankOf S n k) → L n k h → M n k h)
-      (back : (n : S .Node) (k : Key) (h : S .Hints) → Within B (rankOf S n k) → M n k h → L n k h) {c : ℕ} {p : List ℕ} (x : Plan S L c p) (w : Within B (x .key)) where
+      (back : (n : S .Node) (k : Key) (h : S .Hints) → Within B (rankOf S n k) → M n k h → L n k h) {c : ℕ}
+      {p : List ℕ} (x : Plan S L c p) (w : Within B (x .key)) where
     -- At a goal the rank is the key.
     goal-le : (n : S .Node) → S .goal n ≡ true → Le (rankOf S n (x .key)) (x .key)
     goal-le n g = subst (λ (z : Key). Le z (x .key)) (sym (rank-zero (x .key) (S .estimate n) (laws .at-goal n g))) (le-refl (x .key))
@@ -57,7 +58,12 @@ module _ (S : System) where
     same-least {n} {k} u g = go (lt-or-le k (x .key))
       where
         go : Lt k (x .key) ⊎ Le (x .key) k → Le (x .key) k
-        go (inl l) = x .least (u .0, back n k (u .0) (within-below B _ _ (subst (λ (z : Key). Le z (x .key)) (sym (rank-zero k (S .estimate n) (laws .at-goal n g))) (lt-le _ _ l)) w) (u .1), u .2) g
+        go (inl l) = x .least (
+          u .0,
+          back n k (u .0)
+              (within-below B _ _ (subst (λ (z : Key). Le z (x .key)) (sym (rank-zero k (S .estimate n) (laws .at-goal n g))) (lt-le _ _ l)) w) (u .1),
+          u .2,
+        ) g
         go (inr l) = l
 
     same-plan : Plan S M c p

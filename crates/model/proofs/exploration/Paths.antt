@@ -33,7 +33,8 @@ module _ (S : System) where
         subst (λ (z : List ℕ). Path S L z n k) a (subst (λ (z : S .Node). Path S L p z k) b (subst (λ (z : Key). Path S L p m z) c r))
 
   -- Entries up to a rank are enough for a path to a node of that rank.
-  pub path-map : Laws S → (L M : Entries S) {p : List ℕ} {n : S .Node} {k : Key} → ((j : Key) (m : S .Node) → Le (rankOf S m j) (rankOf S n k) → (h : S .Hints) → L m j h → M m j h)
+  pub path-map : Laws S → (L M : Entries S) {p : List ℕ} {n : S .Node} {k : Key}
+      → ((j : Key) (m : S .Node) → Le (rankOf S m j) (rankOf S n k) → (h : S .Hints) → L m j h → M m j h)
       → Path S L p n k → Path S M p n k
   path-map laws L M f (begin {n = n} s u) = begin s (u .0, f zeroKey n (le-refl _) (u .0) (u .1), u .2)
   path-map laws L M f (onward {m = m} {n = n} {k = k} i q b s u) =

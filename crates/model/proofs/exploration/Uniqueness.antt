@@ -1,6 +1,5 @@
 -- The equations of exploration have at most one solution, up to the key to which they go.
 use mathlib.Core.Path.{_≡_, sym, _∙_, subst}
-use Prim.Native.Nat.{ℕ}
 use mathlib.Core.Logic.{_⊎_, inl, inr}
 use Rattle.model.specs.exploration.Key.{Key, zeroKey, Le, Lt}
 use Rattle.model.specs.exploration.System.{System, rankOf}

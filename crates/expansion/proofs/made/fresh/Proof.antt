@@ -30,7 +30,8 @@ returns c =
     let h = hinted g in
     let k = keyed h in
     let s = start k in (
-      opened-makes (query (s .args .job .now)) (s .pre .0 .accepted) _ _ _ _ _ _ _ (c .opened .ensures) (k .key-of .ensures) (h .hints-of .ensures .0) (s .pre .2)
+      opened-makes (query (s .args .job .now)) (s .pre .0 .accepted) _ _ _ _ _ _ _ (c .opened .ensures) (k .key-of .ensures) (h .hints-of .ensures .0)
+          (s .pre .2)
           (g .is-goal .ensures .0) refl (s .pre .1) (omega (arith, few-actions (query (s .args .job .now)) (s .pre .0 .accepted))),
       g .is-goal .ensures .1,
     )

@@ -13,26 +13,33 @@ returns c =
 before-requires : tie.Need-before-requires
 before-requires c κs =
     let e = c .before .before .before in
-    let s = e .before .before .before .before in
-    (s .pre .1, s .pre .3, comparable (query (s .args .job .now)) (s .args .t .now) (s .args .n) (s .args .i) _ (s .args .cost) (s .args .steps) (s .args .found) _ (e .before .is-due .ensures) (e .if1 .left) (c .before .found .given .1) (s .pre .4) (s .pre .1) (s .pre .2))
+    let s = e .before .before .before .before in (
+      s .pre .1,
+      s .pre .3,
+      comparable (query (s .args .job .now)) (s .args .t .now) (s .args .n) (s .args .i) _ (s .args .cost) (s .args .steps)
+          (s .args .found) _ (e .before .is-due .ensures) (e .if1 .left) (c .before .found .given .1) (s .pre .4) (s .pre .1) (s .pre .2),
+    )
 
 returns-2 : tie.Need-returns-2
 returns-2 c =
     let e = c .before .before in
     let s = e .before .before .before .before .args in
-    chosen-only (query (s .job .now)) (s .t .now) (s .n) (s .cost) (s .steps) (s .i) (s .found) _ (e .before .is-due .ensures) (e .if1 .left) (c .enum-told .given .1)
+    chosen-only (query (s .job .now)) (s .t .now) (s .n) (s .cost) (s .steps) (s .i) (s .found) _ (e .before .is-due .ensures) (e .if1 .left)
+    (c .enum-told .given .1)
 
 returns-3 : tie.Need-returns-3
 returns-3 c =
     let e = c .before .before .before .before .before in
     let s = e .before .before .before .before .args in
-    chosen-behind (query (s .job .now)) (s .t .now) (s .n) (s .cost) (s .steps) (s .i) (s .found) _ (e .before .is-due .ensures) _ _ (c .before .before2 .ensures) (e .if1 .left) (c .before .before .before .found .given .1) (c .if2 .taken)
+    chosen-behind (query (s .job .now)) (s .t .now) (s .n) (s .cost) (s .steps) (s .i) (s .found) _ (e .before .is-due .ensures) _ _
+    (c .before .before2 .ensures) (e .if1 .left) (c .before .before .before .found .given .1) (c .if2 .taken)
 
 returns-4 : tie.Need-returns-4
 returns-4 c =
     let e = c .before .before .before .before .before in
     let s = e .before .before .before .before .args in
-    chosen-here (query (s .job .now)) (s .t .now) (s .n) (s .cost) (s .steps) (s .i) (s .found) _ (e .before .is-due .ensures) _ _ (c .before .before2 .ensures) (e .if1 .left) (c .before .before .before .found .given .1) (c .if2 .left)
+    chosen-here (query (s .job .now)) (s .t .now) (s .n) (s .cost) (s .steps) (s .i) (s .found) _ (e .before .is-due .ensures) _ _
+    (c .before .before2 .ensures) (e .if1 .left) (c .before .before .before .found .given .1) (c .if2 .left)
 
 pub choose-spec : {M : Type 1} → statement M
 choose-spec =

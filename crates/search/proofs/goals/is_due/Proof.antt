@@ -22,7 +22,8 @@ returns-3 c =
     let l = k .before .before in
     let p = l .before in
     let s = p .before .before .before .before .before .before .args in
-    not-due (query (s .job .now)) (s .cost) (s .steps) (slotAt (s .t .now) (s .i)) _ _ (p .before .before .before .cost .ensures .0) (p .before .steps .ensures .0) (p .before .before .if1 .left) (p .if2 .left) _ (l .load .ensures .0) _ (k .is-cut .ensures) (c .if3 .taken)
+    not-due (query (s .job .now)) (s .cost) (s .steps) (slotAt (s .t .now) (s .i)) _ _ (p .before .before .before .cost .ensures .0)
+    (p .before .steps .ensures .0) (p .before .before .if1 .left) (p .if2 .left) _ (l .load .ensures .0) _ (k .is-cut .ensures) (c .if3 .taken)
 
 returns-4 : tie.Need-returns-4
 returns-4 c =
@@ -30,7 +31,8 @@ returns-4 c =
     let l = k .before .before in
     let p = l .before in
     let s = p .before .before .before .before .before .before .args in
-    is-due (query (s .job .now)) (s .cost) (s .steps) (slotAt (s .t .now) (s .i)) _ _ (p .before .before .before .cost .ensures .0) (p .before .steps .ensures .0) (p .before .before .if1 .left) (p .if2 .left) _ (l .load .ensures .0) _ (k .is-cut .ensures) (c .if3 .left)
+    is-due (query (s .job .now)) (s .cost) (s .steps) (slotAt (s .t .now) (s .i)) _ _ (p .before .before .before .cost .ensures .0)
+    (p .before .steps .ensures .0) (p .before .before .if1 .left) (p .if2 .left) _ (l .load .ensures .0) _ (k .is-cut .ensures) (c .if3 .left)
 
 pub is-due-spec : {M : Type 1} → statement M
 is-due-spec =

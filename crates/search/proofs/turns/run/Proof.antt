@@ -40,7 +40,8 @@ loop-holds : tie.Need-loop-holds Inv-loop μ-loop
 loop-holds c =
     let s = c .before .before .before in (
       s .pre .0,
-      ap (λ (k : ℕ). turns (sys (query (s .args .job .now))) (s .args .places) k (heldIn (query (s .args .job .now)) 1 (s .args .t .now))) (add-one (s .args .places)),
+      ap (λ (k : ℕ). turns (sys (query (s .args .job .now))) (s .args .places) k (heldIn (query (s .args .job .now)) 1 (s .args .t .now)))
+          (add-one (s .args .places)),
       refl,
       s .pre .1,
       refl,

@@ -22,8 +22,13 @@ loop-holds c = (refl, (λ k h. absurd (omega arith)), omega arith, refl)
 loop-again : tie.Need-loop-again Inv-loop μ-loop
 loop-again c =
     let l = c .before .before .before .before .before .loop in
-    let s = c .before .before .before .before .before .before .before in
-    (words-more _ (l .t) _ (s .args .t3) (s .args .i * rowWords) (l .j) _ (l .inv .0) (c .before .before .put .ensures .1) refl, below-more (λ k. getD (s .args .t3) k 0 < 2 ^ 64) (l .j) (l .inv .1) (c .before .before .put .ensures .0), omega arith, omega arith)
+    let s = c .before .before .before .before .before .before .before in (
+      words-more _ (l .t) _ (s .args .t3) (s .args .i * rowWords) (l .j) _ (l .inv .0) (c .before .before .put .ensures .1) refl,
+      below-more
+          (λ k. getD (s .args .t3) k 0 < 2 ^ 64) (l .j) (l .inv .1) (c .before .before .put .ensures .0),
+      omega arith,
+      omega arith,
+    )
 
 returns : tie.Need-returns Inv-loop μ-loop
 returns c =

@@ -1,7 +1,7 @@
 -- `capacity` counts whole slots.
 use native.Mathlib.Omega.{arith}
 use borrow.Author.Tests.{le-leb, lt-leb}
-use Rattle.model.specs.calls.Search.{slotsIn, slotBytes}
+use Rattle.model.specs.calls.Search.{slotsIn}
 use Rattle.table.proofs.slots.capacity.Statement.{statement}
 use Rattle.table.proofs.slots.capacity.Tie as tie
 
