@@ -5,7 +5,18 @@ use mathlib.Core.List.{List}
 use lib.ListN.{length}
 use Rattle.model.specs.logic.Parts.{partsOf}
 use Rattle.model.specs.logic.Reading.{formula, parsed}
-use Rattle.model.specs.job.Layout.{factCount, actionCount, constraintCount, hintCount, pairCount, pairOffset, pairLength, sectionBytes, formulaIn, formulaAt}
+use Rattle.model.specs.job.Layout.{taskHead, actionBytes, factCount, actionCount, constraintCount, hintCount, pairCount, pairOffset, pairLength}
+use Rattle.model.specs.job.Layout.{sectionBytes, taskBytes, actionOffset, formulaIn, formulaAt}
+
+-- The first pair, which says where the task section is and ends at byte 8, is there, and so are the bytes of the start and the goal.
+pub record HeadThere (bytes : List ℕ) : Type 0 where
+  pub pair : 8 ≤ length bytes
+  pub whole : pairOffset bytes 0 + taskHead ≤ length bytes
+
+-- The first pair is there, and so are the bytes of action i.
+pub record ActionThere (bytes : List ℕ) (i : ℕ) : Type 0 where
+  pub pair : 8 ≤ length bytes
+  pub whole : actionOffset bytes i + actionBytes ≤ length bytes
 
 -- The head and the pairs are fine: all that a reader looks at is there.
 pub record Laid (bytes : List ℕ) : Type 0 where
@@ -19,7 +30,7 @@ pub record Laid (bytes : List ℕ) : Type 0 where
   pub pair : (i : ℕ) → i < pairCount bytes → 8 + 4 * i ≤ length bytes
   pub section : (i : ℕ) → i < pairCount bytes → pairOffset bytes i + pairLength bytes i ≤ length bytes
   -- the task section has as many bytes as its actions fill
-  pub task : pairLength bytes 0 ≡ 16 + 26 * actionCount bytes
+  pub task : pairLength bytes 0 ≡ taskBytes bytes
   -- a formula has 1 to 128 bytes
   pub some-bytes : (i : ℕ) → 1 ≤ i → i < pairCount bytes → 1 ≤ pairLength bytes i
   pub few-bytes : (i : ℕ) → 1 ≤ i → i < pairCount bytes → pairLength bytes i ≤ 128

@@ -17,7 +17,8 @@ use Rattle.model.specs.logic.Formula.{Formula}
 use Rattle.model.specs.logic.Parts.{Part, partsOf}
 use Rattle.model.specs.logic.Reading.{Parsed, formula, wrong}
 use Rattle.model.specs.job.Job.{Job, Action, noAction, actionOf, listOf}
-use Rattle.model.specs.job.Layout.{factCount, actionCount, constraintCount, hintCount, pairOffset, actionOffset, actionAt, formulaIn, formulaAt, jobOf}
+use Rattle.model.specs.job.Layout.{setBytes, setCount, factCount, actionCount, constraintCount, hintCount, pairOffset, setOffset, actionAt}
+use Rattle.model.specs.job.Layout.{formulaIn, formulaAt, jobOf}
 use Rattle.model.specs.job.Decoding.{countsInRange, partsVerdict, formulaVerdict, headVerdict, pairsVerdict}
 use Rattle.model.specs.job.Decoding.{setVerdict, actionVerdict, taskVerdict, formulasVerdict, jobVerdict}
 use Rattle.model.proofs.exploration.Each.{All}
@@ -99,9 +100,9 @@ module _ (bytes : List ℕ) where
       counts = counts-fine (factCount bytes) (actionCount bytes) (tests .1)
 
   -- An accepted set has no bit 64 or above.
-  set-lt : factCount bytes ≤ 64 → (o : ℕ) → setVerdict bytes o ≡ Fine → numberAt 8 bytes o < 2 ^ 64
+  set-lt : factCount bytes ≤ 64 → (o : ℕ) → setVerdict bytes o ≡ Fine → numberAt setBytes bytes o < 2 ^ 64
   unfolding setVerdict
-  set-lt v o h = lt-of-lt-of-le (ltb-true (numberAt 8 bytes o) (2 ^ factCount bytes) ((unless-fine _ 3 o) .0 h)) (pow-mono v)
+  set-lt v o h = lt-of-lt-of-le (ltb-true (numberAt setBytes bytes o) (2 ^ factCount bytes) ((unless-fine _ 3 o) .0 h)) (pow-mono v)
 
   -- A section that passes holds its formula, which has at most 6 carried parts.
   pub section-fine : (o i : ℕ) → formulaVerdict o (formulaIn bytes i) ≡ Fine
@@ -116,17 +117,20 @@ module _ (bytes : List ℕ) where
           ((n, e ∙ ap (λ (x : Formula). formula x n) (sym a)), rw a (parts-few o (partsOf φ) (rw (e, formulaVerdict) at h)))
       go (wrong p) e = absurd (bad-not-fine (rw (e, formulaVerdict) at h))
 
+  -- Each set of each action of an accepted task has no bit 64 or above.
+  sets-lt : factCount bytes ≤ 64 → taskVerdict bytes ≡ Fine → (i k : ℕ) → i < actionCount bytes → k < setCount
+      → numberAt setBytes bytes (setOffset bytes i k) < 2 ^ 64
+  unfolding taskVerdict actionVerdict
+  sets-lt v h i k l m =
+      let a = (orElse-fine (setVerdict bytes (pairOffset bytes 0)) _) .0 h in
+      let b = (orElse-fine (setVerdict bytes (pairOffset bytes 0 + setBytes)) _) .0 (a .1) in
+      let c = (inTurn-fine (actionCount bytes) (actionVerdict bytes)) .0 (b .1) i l in
+      set-lt v (setOffset bytes i k) ((inTurn-fine setCount (λ j. setVerdict bytes (setOffset bytes i j))) .0 c k m)
+
   -- The facts that an accepted action adds are below 64.
   action-add : factCount bytes ≤ 64 → taskVerdict bytes ≡ Fine → (i : ℕ) → i < actionCount bytes → actionAt bytes i .add < 2 ^ 64
-  unfolding taskVerdict actionVerdict actionAt
-  action-add v h i l =
-      let o : ℕ = actionOffset bytes i in
-      let a = (orElse-fine (setVerdict bytes (pairOffset bytes 0)) _) .0 h in
-      let b = (orElse-fine (setVerdict bytes (pairOffset bytes 0 + 8)) _) .0 (a .1) in
-      let c = (inTurn-fine (actionCount bytes) (actionVerdict bytes)) .0 (b .1) i l in
-      let d = (orElse-fine (setVerdict bytes o) (orElse (setVerdict bytes (o + 8)) (setVerdict bytes (o + 16)))) .0 c in
-      let e = (orElse-fine (setVerdict bytes (o + 8)) (setVerdict bytes (o + 16))) .0 (d .1) in
-      set-lt v (o + 8) (e .0)
+  unfolding actionAt
+  action-add v h i l = sets-lt v h i 1 l (omega arith)
 
   -- So are those of every action number: an action that the job does not have adds none.
   add-below : factCount bytes ≤ 64 → taskVerdict bytes ≡ Fine → (i : ℕ) → actionOf (jobOf bytes) i .add < 2 ^ 64
