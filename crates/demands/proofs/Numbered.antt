@@ -12,7 +12,7 @@ use Rattle.model.specs.declared.Verdict.the-variants.{Fine, Bad}
 use Rattle.model.specs.declared.Constant.the-variants.{True}
 use Rattle.model.specs.Bits.{numberAt}
 use Rattle.model.specs.Verdict.{unless, orElse, inTurn}
-use Rattle.model.specs.logic.Parts.{Part, partsOf}
+use Rattle.model.specs.logic.Parts.{mostParts, Part, partsOf}
 use Rattle.model.specs.logic.Reading.{Parsed, formula, wrong, section}
 use Rattle.model.specs.logic.Formula.{constant}
 use Rattle.model.specs.logic.Truth.{holds}
@@ -53,7 +53,7 @@ module _ (P : ℕ → Type 0) where
 module _ (P : ℕ → Type 0) (four : P 4) (five : P 5) where
   parts-numbered : (o : ℕ) (ps : List Part) → Numbered P (partsVerdict o ps)
   unfolding partsVerdict
-  parts-numbered o ps = go (drop 6 ps)
+  parts-numbered o ps = go (drop mostParts ps)
     where
       go : (qs : List Part) → Numbered P (elim qs as (λ x. Verdict) [ [] ↦ Fine | p ∷ qs ↦ Bad (record { number = 5; place = o + p .position }) ])
       go [] r e = fine-not-bad e

@@ -3,7 +3,7 @@ use mathlib.Core.Path.{_≡_}
 use Prim.Native.Nat.{ℕ, _+_, _*_, _≤_, _<_}
 use mathlib.Core.List.{List}
 use lib.ListN.{length}
-use Rattle.model.specs.logic.Parts.{partsOf}
+use Rattle.model.specs.logic.Parts.{mostParts, partsOf}
 use Rattle.model.specs.logic.Reading.{formula, parsed}
 use Rattle.model.specs.job.Layout.{taskHead, actionBytes, factCount, actionCount, constraintCount, hintCount, pairCount, pairOffset, pairLength}
 use Rattle.model.specs.job.Layout.{sectionBytes, taskBytes, actionOffset, formulaIn, formulaAt}
@@ -35,9 +35,9 @@ pub record Laid (bytes : List ℕ) : Type 0 where
   pub some-bytes : (i : ℕ) → 1 ≤ i → i < pairCount bytes → 1 ≤ pairLength bytes i
   pub few-bytes : (i : ℕ) → 1 ≤ i → i < pairCount bytes → pairLength bytes i ≤ 128
 
--- Section i holds a formula: it is read to the section's end, also where all 64 facts and actions may occur, and has at most 6 carried parts.
+-- Section i holds a formula: it is read to the section's end, also where all 64 facts and actions may occur, and has no more carried parts than it may.
 pub record Formulated (bytes : List ℕ) (i : ℕ) : Type 0 where
   pub size : length (sectionBytes bytes i) ≡ pairLength bytes i
   pub whole : formulaIn bytes i ≡ formula (formulaAt bytes i) (pairLength bytes i)
   pub read : parsed 64 64 (sectionBytes bytes i) 0 ≡ formula (formulaAt bytes i) (pairLength bytes i)
-  pub few-parts : length (partsOf (formulaAt bytes i)) ≤ 6
+  pub few-parts : length (partsOf (formulaAt bytes i)) ≤ mostParts

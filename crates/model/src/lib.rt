@@ -24,6 +24,9 @@ pub enum Binary {
     Release,
 }
 
+// A formula has at most this many carried parts.
+pub const MOST_PARTS: usize = 6;
+
 // What a byte of a formula stands for; a fact's and an action's number follows in the next byte.
 pub enum Code {
     Leaf(Constant),

@@ -9,7 +9,7 @@ use Rattle.model.specs.declared.Verdict.the-variants.{Fine, Bad}
 use Rattle.model.specs.Bits.{numberAt}
 use Rattle.model.specs.Verdict.{refusal, unless, orElse, inTurn}
 use Rattle.model.specs.logic.Reading.{Parsed, formula, wrong}
-use Rattle.model.specs.logic.Parts.{Part, partsOf}
+use Rattle.model.specs.logic.Parts.{mostParts, Part, partsOf}
 use Rattle.model.specs.job.Layout.{setBytes, setCount, factCount, actionCount, constraintCount, hintCount, pairCount, pairOffset, pairLength}
 use Rattle.model.specs.job.Layout.{taskBytes, setOffset, formulaIn}
 
@@ -17,9 +17,9 @@ use Rattle.model.specs.job.Layout.{taskBytes, setOffset, formulaIn}
 unfoldable pub countsInRange : ℕ → ℕ → Bool
 countsInRange v a = leb 1 v && leb v 64 && leb a 64
 
--- "more than 6 carried parts": refused at "the seventh", counted from an offset
+-- more carried parts than a formula may have: refused at "the seventh", counted from an offset
 unfoldable pub partsVerdict : ℕ → List Part → Verdict
-partsVerdict o ps = elim (drop 6 ps) [ [] ↦ Fine | p ∷ qs ↦ Bad (refusal 5 (o + p .position)) ]
+partsVerdict o ps = elim (drop mostParts ps) [ [] ↦ Fine | p ∷ qs ↦ Bad (refusal 5 (o + p .position)) ]
 
 -- a section's formula: "unknown code, number too large, early end, bytes left", then "same section, after 4" the carried parts
 unfoldable pub formulaVerdict : ℕ → Parsed → Verdict

@@ -57,7 +57,7 @@ unfoldable pub hintTrueAt : List ℕ → HintSetting → Bool
 unfolding bit
 hintTrueAt h s = bit (getD h (s .hint) 0) (s .parts)
 
--- a truth table of 6 parts for each hint
+-- a truth table of 64 bits for each hint
 abbrev pub Tables : Job → List ℕ → Type 0
 Tables j h = (length h ≡ length (j .hints)) × ((i : ℕ) → getD h i 0 < 2 ^ 64)
 
