@@ -1,4 +1,7 @@
-// The types that the definitions in specs/ and the code of all crates share.
+// The types and the sizes that the definitions in specs/ and the code of all crates share.
+
+// A formula has at most this many carried parts.
+pub const MOST_PARTS: usize = 6;
 
 // The words of a node: a state and the residuals of eight constraints.
 pub const NODE: usize = 9;
@@ -23,9 +26,6 @@ pub enum Binary {
     Until,
     Release,
 }
-
-// A formula has at most this many carried parts.
-pub const MOST_PARTS: usize = 6;
 
 // What a byte of a formula stands for; a fact's and an action's number follows in the next byte.
 pub enum Code {

@@ -17,7 +17,7 @@ use Rattle.model.specs.job.Layout.{taskBytes, setOffset, formulaIn}
 unfoldable pub countsInRange : ℕ → ℕ → Bool
 countsInRange v a = leb 1 v && leb v 64 && leb a 64
 
--- more carried parts than a formula may have: refused at "the seventh", counted from an offset
+-- "more than 6 carried parts": refused at "the seventh", counted from an offset
 unfoldable pub partsVerdict : ℕ → List Part → Verdict
 partsVerdict o ps = elim (drop mostParts ps) [ [] ↦ Fine | p ∷ qs ↦ Bad (refusal 5 (o + p .position)) ]
 
