@@ -33,6 +33,16 @@ use Rattle.search.specs.GoalSlots.{due, chosen, firstDue, Behind}
 -- ---- whether a slot is due, test by test
 
 module _ (job : Query) (c s : ℕ) (x : Slot) where
+  -- A slot that is no goal is not due.
+  pub no-goal : (g : Bool) → g ≡ x .goal → not g ≡ true → false ≡ due job c s x
+  unfolding due
+  no-goal g e n = go (sameKey (keyOf (x .cost) (x .steps)) (keyOf c s)) (not (someDead (hintsIs (hintCount (job .bytes)) (x .hints)))) (sym e ∙ not-true g n)
+    where
+      go : (a b : Bool) {y : Bool} → y ≡ false → false ≡ (a && b && y)
+      go true true h = sym h
+      go true false h = refl
+      go false b h = refl
+
   -- A slot of another cost is not due.
   pub other-cost : (v : ℕ) → v ≡ x .cost → (v ≡ c → ⊥) → false ≡ due job c s x
   unfolding due sameKey
@@ -47,20 +57,21 @@ module _ (job : Query) (c s : ℕ) (x : Slot) where
       go true = rw (ne-eqb (x .steps) s (λ q. n (e ∙ q)))
       go false = refl
 
-  -- A slot of that cost and number of steps is loaded and looked at: it is not due if it is cut.
+  -- A slot of that cost and number of steps is loaded, and its hints are looked at.
   module _ (v w : ℕ) (ev : v ≡ x .cost) (ew : w ≡ x .steps) (ec : v ≡ c) (es : w ≡ s) (z : Slot) (loaded : z ≡ x) (d : Bool)
       (cut : d ≡ someDead (hintsIs (hintCount (job .bytes)) (z .hints))) where
     is-cut : someDead (hintsIs (hintCount (job .bytes)) (x .hints)) ≡ d
     is-cut = sym (cut ∙ ap (λ (y : Slot). someDead (hintsIs (hintCount (job .bytes)) (y .hints))) loaded)
 
-    pub not-due : d ≡ true → false ≡ due job c s x
+    -- A goal of that cost and number of steps is due unless it is cut.
+    pub is-due : (g : Bool) → g ≡ x .goal → not g ≡ false → not d ≡ due job c s x
     unfolding due sameKey
-    not-due e = rw (eq-eqb (x .cost) c (sym ev ∙ ec), sameKey, eq-eqb (x .steps) s (sym ew ∙ es), is-cut ∙ e)
-
-    -- A slot that is not cut is due if it is a goal.
-    pub is-due : d ≡ false → z .goal ≡ due job c s x
-    unfolding due sameKey
-    is-due e = ap (λ (y : Slot). y .goal) loaded ∙ rw (eq-eqb (x .cost) c (sym ev ∙ ec), sameKey, eq-eqb (x .steps) s (sym ew ∙ es), is-cut ∙ e) refl
+    is-due g e n =
+        rw (eq-eqb (x .cost) c (sym ev ∙ ec), sameKey, eq-eqb (x .steps) s (sym ew ∙ es), is-cut, sym e ∙ not-false g n) (go d)
+      where
+        go : (b : Bool) → not b ≡ (not b && true)
+        go true = refl
+        go false = refl
 
   -- A slot that is due has that cost and so many steps.
   pub due-key : due job c s x ≡ true → (x .cost ≡ c) × (x .steps ≡ s)

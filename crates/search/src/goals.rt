@@ -14,23 +14,22 @@ ghost use Rattle.paths.specs.Chain.{held, Chained};
 ghost use Rattle.held.specs.Held.{sys, heldIs, heldIn};
 ghost use Rattle.search.specs.GoalSlots.{due, chosen, firstDue, Behind};
 
-// Whether the slot i is an uncut goal of a key. Most slots have another key, which two words tell.
+// Whether the slot i is an uncut goal of a key. Most slots are no goal, or have another key, which one word tells.
 fn is_due(job: &[u8], t: &[u8], i: usize, cost: u64, steps: u64) -> bool
     requires { ⌜ (jobVerdict (now job) ≡ Fine) × (i * slotBytes + slotBytes ≤ length (now t)) ⌝ }
     ensures { λ r. ⌜ r ≡ due (query (now (job .entry))) cost steps (slotAt (now (t .entry)) i) ⌝ }
 {
+    if !slots::is_goal(t, i) {
+        return false;
+    }
     if slots::cost(t, i) != cost {
         return false;
     }
     if slots::steps(t, i) != steps {
         return false;
     }
-    let slot = slots::load(t, i);
-    let hints = slot.hints;
-    if nodes::is_cut(job, hints) {
-        return false;
-    }
-    slot.goal
+    let hints = slots::load(t, i).hints;
+    !nodes::is_cut(job, hints)
 }
 
 // Of the slot i, if it is due, and the one found after it, the one whose path comes first.

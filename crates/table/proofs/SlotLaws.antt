@@ -61,6 +61,10 @@ module _ (l : List ℕ) (i w : ℕ) where
   unfolding slotOf
   slot-taken e h = rw (slot-at l i h, row-at l i 18 (omega arith), ← e)
 
+  pub slot-goal : w ≡ word l (i * rowWords + 18) → i * slotBytes + slotBytes ≤ length l → eqb (w / 512 % 2) 1 ≡ slotAt l i .goal
+  unfolding slotOf
+  slot-goal e h = rw (slot-at l i h, row-at l i 18 (omega arith), ← e)
+
 -- ---- the node of a slot, from its first words
 
 pub length-node : (l : List ℕ) (i : ℕ) → i * slotBytes + slotBytes ≤ length l → length (slotAt l i .node) ≡ nodeWords

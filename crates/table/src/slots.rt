@@ -99,6 +99,14 @@ pub fn action(t: &[u8], i: usize) -> u64
     cells::get(t, i * ROW + 18) % TAKEN
 }
 
+// Whether the slot i is a goal.
+pub fn is_goal(t: &[u8], i: usize) -> bool
+    requires { ⌜ i * slotBytes + slotBytes ≤ length (now t) ⌝ }
+    ensures { λ r. ⌜ r ≡ slotAt (now (t .entry)) i .goal ⌝ }
+{
+    cells::get(t, i * ROW + 18) / GOAL % 2 == 1
+}
+
 // Whether the slot i was taken.
 pub fn is_taken(t: &[u8], i: usize) -> bool
     requires { ⌜ i * slotBytes + slotBytes ≤ length (now t) ⌝ }
