@@ -48,12 +48,11 @@ module _ (job : Query) where
   unfolding heldIs
   opened-makes fine node hints key estimate parent action goal e r c n g left p a = rw e (record {
     stands = λ d. record { node = nodeFor job node; key = r .is d; hints = c .carries d; parent = parent; action = action; taken = false };
-    sound = record { clean = n; cleanHints = c .clean; marked = g; estimated = left; summed = r .summed; short = r .short };
+    sound = record { clean = n; cleanHints = c .clean; marked = g; estimated = left; summed = r .summed };
     narrow = record {
       cost = omega arith;
       steps = r .short;
-      estimate = omega
-          (arith, left, estimate-narrow job fine (nodeFor job node));
+      estimate = omega (arith, left, estimate-narrow job fine (nodeFor job node));
       parent = p;
       action = a;
     };

@@ -1,5 +1,5 @@
 -- What is looked up among the slots is what is looked up among their records.
-use mathlib.Core.Path.{_≡_, refl, sym, ap, _∙_, subst}
+use mathlib.Core.Path.{_≡_, refl, sym, ap, _∙_}
 use mathlib.Core.Bool.{Bool, true, false}
 use mathlib.Core.Option.{Option, none, some}
 use mathlib.Core.List.{List, [], _∷_, map}
@@ -79,26 +79,17 @@ module _ (job : Query) where
       go true e NoOpen f ih = rw (e, ih, f)
       go true e (Open i c n) f ih = rw (e, ih, f)
       go false e NoOpen f ih = rw (e, ih, f) (ap (λ (z : Key). some (record { slot = k; rank = z })) (sym rank))
-      go false e (Open i c n) f ih = rw (e, ih, f) (subst (λ (z : Key). first (less (keyOf c n) z) z ≡ bestOption (choose (less (keyOf c n) (rankAt s)) (Open i c n) here)) rank (same (less (keyOf c n) (rankAt s))))
+      go false e (Open i c n) f ih = rw (e, ih, f) (ap (λ (z : Key). first (less (keyOf c n) z) z) (sym rank) ∙ same (less (keyOf c n) (rankAt s)))
         where
-          here : Best
-          here = Open k (s .cost + s .estimate) (s .steps)
-
           first : Bool → Key → Option search.Open
           first b z = elim b as (λ y. Option search.Open) [
             | false ↦ some (record { slot = k; rank = z })
-            | true ↦ some
-                (record { slot = i; rank = rankOfNumber r })
+            | true ↦ some (record { slot = i; rank = keyOf c n })
           ]
 
-          tested : ltb r (rankNumber s) ≡ less (rankOfNumber r) (rankOfNumber (rankNumber s))
-          tested = number-less r s (h .0 .short) ∙ ap (less (rankOfNumber r)) (sym (number-rank s (h .0 .short)))
-
-          same : (b : Bool) → b ≡ less (rankOfNumber r) (rankOfNumber (rankNumber s))
-              → first (less (rankOfNumber r) (rankOfNumber (rankNumber s))) (rankOfNumber (rankNumber s)) ≡ bestOption
-              (choose b (Open i r) (Open k (rankNumber s)))
-          same true d = rw (← d)
-          same false d = rw (← d)
+          same : (b : Bool) → first b (rankAt s) ≡ bestOption (choose b (Open i c n) (Open k (s .cost + s .estimate) (s .steps)))
+          same true = refl
+          same false = refl
 
   -- The open slot of the least rank, among n sound slots.
   pub least-held : (n : ℕ) (t : List ℕ) → SoundTo job n t → leastOpen (sys job) (heldIn job n t) 0 ≡ bestOption (leastIn (take n (slots t)) 0)
@@ -120,8 +111,8 @@ module _ (job : Query) where
             let l : leastOpen (sys job) (heldIn job n t) 0 ≡ some (record { slot = j; rank = keyOf c k }) = least-held n t sound ∙ ap bestOption d in
             let m = least-some (sys job) (heldIn job n t) l in
             let h = held-is job n t j (m .1) in
-            let y : rankOfNumber r ≡ rankAt (slotAt t j) = m .3 ∙ ap (rankIn (sys job)) (h .1) ∙ held-rank (slotAt t j)
-            (sound-at job n t sound j (h .0) room) in
+            let y : keyOf c k ≡ rankAt (slotAt t j) = m .3 ∙ ap (rankIn (sys job)) (h .1)
+            ∙ held-rank (slotAt t j) (sound-at job n t sound j (h .0) room) in
             rw p at (l ∙ ap (λ (z : Key). some (record { slot = j; rank = z })) y)
         go NoOpen d = let w : Nothing ≡ At i = sym (ap slotOfBest d) ∙ sym e ∙ q in let z : _≡_ {A = ℕ} 0 1 = cc in absurd (omega arith)
 

@@ -5,6 +5,7 @@ use super::cells;
 use super::cells::ROW;
 use super::slots;
 use model::NODE;
+use task::Key;
 ghost use mathlib.Core.Path.{_≡_};
 ghost use Prim.Native.Nat.{_+_, _*_, _≤_};
 ghost use lib.ListN.{length, take};
