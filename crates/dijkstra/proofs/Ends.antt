@@ -17,7 +17,7 @@ use Rattle.model.proofs.exploration.Each.{All}
 use Rattle.model.proofs.exploration.Counting.{Apart}
 use Rattle.model.proofs.exploration.Uniqueness.{unique}
 use Rattle.model.proofs.exploration.Solves.{reached-solves}
-use Rattle.model.proofs.exploration.Answered.{answer-is, reached-at-least}
+use Rattle.model.proofs.exploration.Answered.{weaken, answer-is, reached-at-least}
 use Rattle.dijkstra.specs.Records.{Held, Table, rankIn}
 use Rattle.dijkstra.specs.Search.{someCutIn, exhausted}
 use Rattle.dijkstra.proofs.Slots.{Holds, holds-one, all-held}
@@ -78,18 +78,6 @@ module _ (S : System) (laws : Laws S) where
     truth : Explores S unbounded R
     truth = reached-solves S laws fin
 
-    -- A solution is one up to any key.
-    up-to-key : (k : Key) → Explores S (up-to k) R
-    up-to-key k = record {
-      start = truth .start;
-      complete = λ w a. truth .complete tt a;
-      arrived = truth .arrived;
-      least = truth .least;
-      conjoined = truth .conjoined;
-      one = truth .one;
-      proper = truth .proper;
-    }
-
     -- The start node is reached.
     pub start-reached : 0 < length (reached S)
     start-reached =
@@ -118,7 +106,7 @@ module _ (S : System) (laws : Laws S) where
       taken-reached : (s : ℕ) (r : Held S) → Holds t s r → r .taken ≡ true → R (r .node) (r .key) (r .hints)
       taken-reached s r h y =
           let l = x .expanding .top s r h y in
-          unique S laws (up-to (rankIn S q)) (Up S t (up-to (rankIn S q))) R solves (up-to-key (rankIn S q)) (r .node) (r .key) (r .hints) l
+          unique S laws (up-to (rankIn S q)) (Up S t (up-to (rankIn S q))) R solves (weaken S (up-to (rankIn S q)) truth) (r .node) (r .key) (r .hints) l
           (s, r, h, refl, refl, refl, l)
 
       -- A node to which an action leads from a taken record that is not cut is reached.

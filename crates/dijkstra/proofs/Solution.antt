@@ -1,4 +1,4 @@
--- The records of a table up to a key solve the equations of exploration up to it.
+-- The records of a table up to a rank solve the equations of exploration up to it.
 use mathlib.Core.Path.{_≡_, refl, sym, ap, _∙_, subst}
 use Prim.Native.Nat.{ℕ, zero, suc}
 use native.Mathlib.Omega.{arith}

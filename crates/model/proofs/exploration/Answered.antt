@@ -45,7 +45,7 @@ module _ (S : System) where
   answers-unique (none-cut n c) (some-cut m d) = absurd (c d)
   answers-unique (none-cut n c) (none-cut m d) = refl
 
-  -- ---- sets that agree up to a key have the same plans up to it
+  -- ---- sets that agree up to a rank have the same plans up to it
 
   module _ (laws : Laws S) (B : Bound) (L M : Entries S) (to : (n : S .Node) (k : Key) (h : S .Hints) → Within B (rankOf S n k) → L n k h → M n k h)
       (back : (n : S .Node) (k : Key) (h : S .Hints) → Within B (rankOf S n k) → M n k h → L n k h) {c : ℕ}
@@ -77,8 +77,8 @@ module _ (S : System) where
       first = λ {q} {n} r g. x .first (path-map S laws M L (λ j m le h. back m j h (within-below B _ _ (le-trans _ _ _ le (goal-le n g)) w)) r) g;
     }
 
-  -- A solution is one up to any key.
-  weaken : (B : Bound) {L : Entries S} → Explores S unbounded L → Explores S B L
+  -- A solution is one up to any rank.
+  pub weaken : (B : Bound) {L : Entries S} → Explores S unbounded L → Explores S B L
   weaken B x = record {
     start = x .start;
     complete = λ w a. x .complete tt a;
@@ -95,7 +95,7 @@ module _ (S : System) where
     unfolding solve
     solve-answers = answer-answers S (reached S) (reached-path S laws fin) (reached-first S laws fin)
 
-    -- A plan that is found in a solution up to a key is the answer.
+    -- A plan that is found in a solution up to a rank is the answer.
     pub plan-is : (B : Bound) (L : Entries S) → Explores S B L → {c : ℕ} {p : List ℕ} (x : Plan S L c p) → Within B (x .key) → solve S ≡ plan c p
     plan-is B L e x w =
         let r = weaken B (reached-solves S laws fin) in

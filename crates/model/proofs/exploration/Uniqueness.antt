@@ -1,4 +1,4 @@
--- The equations of exploration have at most one solution, up to the key to which they go.
+-- The equations of exploration have at most one solution, up to the rank to which they go.
 use mathlib.Core.Path.{_≡_, sym, _∙_, subst}
 use mathlib.Core.Logic.{_⊎_, inl, inr}
 use Rattle.model.specs.exploration.Key.{Key, zeroKey, Le, Lt}
@@ -8,7 +8,7 @@ use Rattle.model.proofs.exploration.KeyLaws.{le-trans, lt-le, le-antisy
 use Rattle.model.proofs.exploration.Laws.{Laws}
 use Rattle.model.proofs.Tests.{same-truth}
 
--- A key up to one within the bound is within the bound.
+-- A rank up to one within the bound is within the bound.
 pub within-below : (B : Bound) (j k : Key) → Le j k → Within B k → Within B j
 within-below (up-to b) j k l w = le-trans j k b l w
 within-below unbounded j k l w = tt
