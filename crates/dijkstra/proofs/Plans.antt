@@ -48,7 +48,8 @@ module _ (S : System) (laws : Laws S) {m0 : S .Node} (starts : Starts S m0) {t :
       (r .hints, (0, r, at0, refl, key, refl, subst (λ (z : Key). Le (rankOf S (r .node) z) k) key l), c))
   uncut-path (suc n) i r h e c l =
       let d = steps-linked S inv i r h e in
-      let p = uncut-path n (r .parent) (d .source) (d .held) (omega (arith, linked-steps S d)) (d .uncut) (le-trans _ _ _ (lt-le _ _ (linked-rank S laws d)) l) in
+      let within = le-trans _ _ _ (lt-le _ _ (linked-rank S laws d)) l in
+      let p = uncut-path n (r .parent) (d .source) (d .held) (omega (arith, linked-steps S d)) (d .uncut) within in
       path-cast S (sym (path-suc S t n i h)) refl (sym (d .keyIs))
       (onward (r .action) p (d .inRange) (d .leads)
       (r .hints, (i, r, h, refl, d .keyIs, refl, subst (λ (z : Key). Le (rankOf S (r .node) z) k) (d .keyIs) l), c))

@@ -18,7 +18,7 @@ use Rattle.table.specs.declared.Slot.{Slot}
 use Rattle.table.specs.Slots.{slotAt, Narrow}
 use Rattle.nodes.specs.Meaning.{hintsIs}
 use Rattle.dijkstra.specs.Records.{Held}
-use Rattle.dijkstra.specs.Search.{relaxed}
+use Rattle.dijkstra.specs.Search.{tied, relaxed}
 use Rattle.dijkstra.proofs.Sending.{Expanding}
 use Rattle.held.specs.Held.{sys, nodeFor, heldIs, heldIn, Sound, SoundTo}
 use Rattle.held.specs.Running.{Running}
@@ -74,6 +74,10 @@ module _ (job : Query) where
   abbrev pub newcomer : ℕ → Slot → ℕ → List ℕ → List ℕ → Held (sys job)
   newcomer i from a node kept =
       record { node = nodeFor job kept; key = keyBy from a; hints = hintsBy from a node; parent = i; action = a; taken = false }
+
+  -- the record that it makes together with an old one of its node and key, in a table of n slots
+  abbrev pub joined : ℕ → List ℕ → ℕ → Slot → ℕ → List ℕ → Slot → Held (sys job)
+  joined n table i from a node old = tied (sys job) (heldIn job n table) (heldIs job old) (hintsBy from a node) i a
 
   -- The record of slot i, which is that of `from`, is being expanded: the actions below a were followed, and a is next.
   pub record Arriving (places n : ℕ) (table : List ℕ) (i : ℕ) (from : Slot) (a : ℕ) : Type 0 where

@@ -8,9 +8,8 @@ ghost use Rattle.model.specs.job.Layout.{constraintCount, hintCount};
 ghost use Rattle.model.specs.search.Query.{query};
 ghost use Rattle.progression.specs.Workspace.{Workspace};
 ghost use Rattle.nodes.specs.Meaning.{Clean, Carries};
-ghost use Rattle.dijkstra.specs.Search.{tied};
-ghost use Rattle.held.specs.Held.{sys, heldIs, heldIn, Sound};
-ghost use Rattle.expansion.specs.Arrivals.{openSlot, Extends, Reaches, Makes, keyBy, hintsBy, newcomer, Arrives, Ties};
+ghost use Rattle.held.specs.Held.{Sound};
+ghost use Rattle.expansion.specs.Arrivals.{openSlot, Extends, Reaches, Makes, keyBy, hintsBy, newcomer, joined, Arrives, Ties};
 
 // The key of an arrival: the sum fits, since costs are sums of as many 16-bit numbers as there are steps.
 pub fn key_of(job: &[u8], from: Slot, a: u8) -> Key
@@ -27,7 +26,8 @@ pub fn key_of(job: &[u8], from: Slot, a: u8) -> Key
 // The hint residuals of an arrival at a node.
 fn hints_of(job: &[u8], work: &mut [u64], from: Slot, a: u8, node: [u64; NODE]) -> [u64; 8]
     requires { ⌜ Extends (query (now job)) from a × Workspace (now job) (now work) ⌝ }
-    ensures { λ r. ⌜ Carries (hintCount (now (job .entry))) (hintsBy (query (now (job .entry))) from a node) r × Workspace (now (job .entry)) (now (work .exit)) ⌝ }
+    ensures { λ r. ⌜ Carries (hintCount (now (job .entry))) (hintsBy (query (now (job .entry))) from a node) r
+        × Workspace (now (job .entry)) (now (work .exit)) ⌝ }
 {
     let hints = from.hints;
     nodes::next_hints(job, work, hints, node, a)
@@ -61,7 +61,8 @@ fn opened(
 // The slot of a new node; for now every estimate is 0.
 pub fn fresh(job: &[u8], work: &mut [u64], i: usize, from: Slot, a: u8, node: [u64; NODE]) -> Slot
     requires { ⌜ Extends (query (now job)) from a × (i < 65536) × Clean (constraintCount (now job)) node × Workspace (now job) (now work) ⌝ }
-    ensures { λ r. ⌜ Makes (query (now (job .entry))) (newcomer (query (now (job .entry))) i from a node node) r × Workspace (now (job .entry)) (now (work .exit)) ⌝ }
+    ensures { λ r. ⌜ Makes (query (now (job .entry))) (newcomer (query (now (job .entry))) i from a node node) r
+        × Workspace (now (job .entry)) (now (work .exit)) ⌝ }
 {
     let key = key_of(job, from, a);
     let hints = hints_of(job, work, from, a, node);
@@ -82,7 +83,8 @@ pub fn replaced(
 ) -> Slot
     requires { ⌜ Extends (query (now job)) from a × (i < 65536) × Reaches (keyBy (query (now job)) from a) key × Sound (query (now job)) old
         × Workspace (now job) (now work) ⌝ }
-    ensures { λ r. ⌜ Makes (query (now (job .entry))) (newcomer (query (now (job .entry))) i from a node (old .node)) r × Workspace (now (job .entry)) (now (work .exit)) ⌝ }
+    ensures { λ r. ⌜ Makes (query (now (job .entry))) (newcomer (query (now (job .entry))) i from a node (old .node)) r
+        × Workspace (now (job .entry)) (now (work .exit)) ⌝ }
 {
     let hints = hints_of(job, work, from, a, node);
     let same = old.node;
@@ -102,8 +104,8 @@ pub fn merged(
     old: Slot,
 ) -> Slot
     requires { ⌜ Arrives (query (now job)) n (now t) i from a × Ties (query (now job)) n (now t) from a old × Workspace (now job) (now work) ⌝ }
-    ensures { λ r. ⌜ Makes (query (now (job .entry))) (tied (sys (query (now (job .entry)))) (heldIn (query (now (job .entry))) n (now (t .entry))) (heldIs (query (now (job .entry))) old)
-        (hintsBy (query (now (job .entry))) from a node) i a) r × Workspace (now (job .entry)) (now (work .exit)) ⌝ }
+    ensures { λ r. ⌜ Makes (query (now (job .entry))) (joined (query (now (job .entry))) n (now (t .entry)) i from a node old) r
+        × Workspace (now (job .entry)) (now (work .exit)) ⌝ }
 {
     let held = old.hints;
     let hints = progression::met(held, hints_of(job, work, from, a, node));

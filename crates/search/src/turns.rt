@@ -71,7 +71,8 @@ fn turn(job: &[u8], work: &mut [u64], t: &mut [u8], n: usize, places: usize) -> 
 // All turns, from a table with the start node in slot 0. Each takes one slot, so one turn more than there are places is enough.
 pub fn run(job: &[u8], work: &mut [u64], t: &mut [u8], places: usize) -> Ended
     requires { ⌜ Idle (query (now job)) places 1 (now t) × Workspace (now job) (now work) ⌝ }
-    ensures { λ r. ⌜ EndsAs (now (t .exit)) r (turns (sys (query (now (job .entry)))) places (suc places) (heldIn (query (now (job .entry))) 1 (now (t .entry)))) ⌝ }
+    ensures { λ r. ⌜ EndsAs (now (t .exit)) r
+        (turns (sys (query (now (job .entry)))) places (suc places) (heldIn (query (now (job .entry))) 1 (now (t .entry)))) ⌝ }
 {
     let mut n = 1;
     let mut left = places + 1;
