@@ -86,7 +86,7 @@ module _ (S : System) where
   linked-rank laws {r = r} l = subst (λ (k : Key). Lt (rankIn S (l .source)) (rankOf S (r .node) k)) (sym (l .keyIs))
       (rank-step (l .source .key) (S .cost (r .action)) _ _ (laws .consistent (l .source .node) (r .node) (r .action) (l .inRange) (l .leads)))
 
-  -- So has the record that an arrival comes from.
+  -- The record that an arrival comes from has a lesser rank than the arrival.
   pub sent-rank : Laws S → {t : Table S} {x : Entry S} (z : Sent t x) → Lt (rankIn S (z .source)) (rankOf S (x .node) (x .key))
   sent-rank laws {x = x} z = subst (λ (k : Key). Lt (rankIn S (z .source)) (rankOf S (x .node) k)) (sym (ap (λ (y : Entry S). y .key) (z .is)))
       (rank-step (z .source .key) (S .cost (z .action)) _ _ (laws .consistent (z .source .node) (x .node) (z .action) (z .inRange) (z .leads)))
@@ -96,7 +96,7 @@ module _ (S : System) where
   unfolding pathOf
   path-suc t n i h = rw (h, pathOf) refl
 
-  -- So does one that goes by a slot and on by an action.
+  -- A path of one more action that goes by a slot and on by an action is the path to the slot and that action.
   pub pathBy-suc : (t : Table S) (n i a : ℕ) {m : ℕ} → m ≡ suc n → pathBy S t m i a ≡ pathOf S t n i ++ (a ∷ [])
   unfolding pathBy
   pathBy-suc t n i a e = ap (λ (m : ℕ). pathBy S t m i a) e

@@ -75,15 +75,15 @@ module _ (S : System) (slots : ℕ) where
       open′ : r .taken ≡ false
       open′ = ap (λ (q : Held S). q .taken) (sym is-least) ∙ (least-some S t least) .2
 
-      key : o .rank ≡ rankIn S r
-      key = (least-some S t least) .3 ∙ ap (rankIn S) is-least
+      rank-is : o .rank ≡ rankIn S r
+      rank-is = (least-some S t least) .3 ∙ ap (rankIn S) is-least
 
       below : (s : ℕ) (p : Held S) → Holds t s p → p .taken ≡ false → Le (rankIn S r) (rankIn S p)
-      below s p h a = subst (λ (k : Key). Le k (rankIn S p)) key (past s p h a)
+      below s p h a = subst (λ (k : Key). Le k (rankIn S p)) rank-is (past s p h a)
 
       no-goal : S .cut (r .hints) ≡ false → S .goal (r .node) ≡ true → ⊥
       no-goal c g = goal-none S (o .rank) t (sized S (ready .inv) (o .rank)) noGoal (o .slot) r held
-          (sym (key ∙ rank-zero (r .key) (S .estimate (r .node)) (laws .at-goal (r .node) g)), c, g)
+          (sym (rank-is ∙ rank-zero (r .key) (S .estimate (r .node)) (laws .at-goal (r .node) g)), c, g)
 
       is-set : u ≡ set t (o .slot) (take-it S r)
       is-set = mark-is S t (o .slot) held

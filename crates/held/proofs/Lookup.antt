@@ -99,7 +99,7 @@ module _ (job : Query) where
 
   module _ (n : ℕ) (t : List ℕ) (sound : SoundTo job n t) (room : n * slotBytes ≤ length t) {f : Found}
       (e : f ≡ slotOfBest (leastIn (take n (slots t)) 0)) where
-    -- It is open, and its rank is its own.
+    -- The slot that is found is the open one of the least rank, which is its own rank.
     pub least-at : {i : ℕ} → f ≡ At i → leastOpen (sys job) (heldIn job n t) 0 ≡ some (record { slot = i; rank = rankAt (slotAt t i) })
     unfolding slotOfBest
     least-at {i} q = go (leastIn (take n (slots t)) 0) refl

@@ -71,7 +71,7 @@ module _ (bytes : List ℕ) (h : jobVerdict bytes ≡ Fine) where
       found = passed .0
 
       read : (parsed 64 64 (sectionBytes bytes (1 + i)) 0 ≡ formula (formulaAt bytes (1 + i)) (found .0)) × (found .0 ≡ length (sectionBytes bytes (1 + i)))
-      read = section-read bytes (1 + i) (found .0) (formulaAt bytes (1 + i)) (accepted-laid .few-facts) (accepted-laid .few-actions) (found .1)
+      read = section-read bytes (1 + i) (found .0) (formulaAt bytes (1 + i)) (accepted-laid .head .few-facts) (accepted-laid .head .few-actions) (found .1)
 
       exact : found .0 ≡ pairLength bytes (1 + i)
       exact = read .1 ∙ size

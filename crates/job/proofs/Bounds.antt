@@ -14,7 +14,7 @@ use Rattle.model.specs.job.Layout.{setBytes, setCount, costBytes, taskHead, act
 use Rattle.model.specs.job.Layout.{taskBytes, actionOffset, setOffset, costOffset}
 use Rattle.model.specs.job.Decoding.{headVerdict, sectionStart, rightLength, pairVerdict, pairsVerdict}
 use Rattle.model.proofs.Tests.{and-both}
-use Rattle.model.proofs.job.Accepted.{four-true, FineHead, head-fine}
+use Rattle.model.proofs.job.Accepted.{four-true, head-fine}
 use Rattle.model.proofs.job.VerdictLaws.{orElse-fine, unless-fine, inTurn-fine}
 use Rattle.job.specs.Laid.{HeadThere, ActionThere, Laid}
 
@@ -42,10 +42,10 @@ module _ (bytes : List ℕ) where
   pub pairs-whole : inTurn (pairCount bytes) (pairVerdict bytes) ≡ Fine → 4 + 4 * pairCount bytes ≤ length bytes
   pairs-whole h = omega (arith, some-pairs, pair-whole (pairCount bytes) h (pairCount bytes - 1) (omega (arith, some-pairs)))
 
-  formula-length : (i n : ℕ) → 1 ≤ i → rightLength bytes i n ≡ true → (1 ≤ n) × (n ≤ 128)
+  formula-length : (i n : ℕ) → 1 ≤ i → rightLength bytes i n ≡ true → n ≤ 128
   unfolding rightLength
   formula-length zero n l h = absurd (omega arith)
-  formula-length (suc i) n l h = let p = (and-both (leb 1 n) (leb n 128)) .0 h in (leb-true 1 n (p .0), leb-true n 128 (p .1))
+  formula-length (suc i) n l h = leb-true n 128 ((and-both (leb 1 n) (leb n 128)) .0 h .1)
 
   task-length : (n : ℕ) → rightLength bytes 0 n ≡ true → n ≡ taskBytes bytes
   unfolding rightLength
@@ -55,22 +55,13 @@ module _ (bytes : List ℕ) where
   pub laid : headVerdict bytes ≡ Fine → pairsVerdict bytes ≡ Fine → Laid bytes
   unfolding pairsVerdict
   laid h p = record {
-    head = counts .whole;
-    some-facts = counts .some-facts;
-    few-facts = counts .few-facts;
-    few-actions = counts .few-actions;
-    few-constraints = counts .few-constraints;
-    few-hints = counts .few-hints;
+    head = head-fine bytes h;
     pair = pair-whole (pairCount bytes) each;
     section = λ i l. leb-true _ (length bytes) (tests i l .3);
     task = task-length _ (tests 0 some-pairs .2);
-    some-bytes = λ i m l. formula-length i _ m (tests i l .2) .0;
-    few-bytes = λ i m l. formula-length i _ m (tests i l .2) .1;
+    few-bytes = λ i m l. formula-length i _ m (tests i l .2);
   }
     where
-      counts : FineHead bytes
-      counts = head-fine bytes h
-
       each : inTurn (pairCount bytes) (pairVerdict bytes) ≡ Fine
       each = (orElse-fine (inTurn (pairCount bytes) (pairVerdict bytes)) _) .0 p .0
 

@@ -1,4 +1,4 @@
--- The order of keys, induction by keys, and the order of action sequences of equal length.
+-- The order of keys and of ranks, induction by keys, and the order of action sequences of equal length.
 use mathlib.Core.Path.{_≡_, refl, sym, ap, _∙_, subst}
 use Prim.Native.Nat.{ℕ, zero, suc, _+_, _≤_, _<_}
 use native.Mathlib.Omega.{arith}

@@ -1,4 +1,4 @@
--- Paths through uncut entries: their ends, their runs, their lengths, and that they depend on lower keys alone.
+-- Paths through uncut entries: their ends, their runs, their lengths, and that they depend on entries of no higher rank alone.
 use mathlib.Core.Path.{_≡_, subst}
 use Prim.Native.Nat.{ℕ}
 use native.Mathlib.Omega.{arith}

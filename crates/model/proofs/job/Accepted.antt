@@ -12,7 +12,6 @@ use lib.Pow.{pow-mono}
 use borrow.Author.Tests.{ltb-true, leb-true}
 use Rattle.model.specs.declared.Verdict.the-variants.{Fine}
 use Rattle.model.specs.Bits.{numberAt}
-use Rattle.model.specs.Verdict.{orElse}
 use Rattle.model.specs.logic.Formula.{Formula}
 use Rattle.model.specs.logic.Parts.{mostParts, Part, partsOf}
 use Rattle.model.specs.logic.Reading.{Parsed, formula, wrong}

@@ -1,4 +1,4 @@
--- Keys of paths, and the order of action sequences of equal length.
+-- Keys of paths, ranks, and the order of action sequences of equal length.
 use mathlib.Core.Path.{_≡_}
 use Prim.Native.Nat.{ℕ, suc, _+_, _≤_, _<_}
 use mathlib.Core.Bool.{Bool, true, false}

@@ -1,4 +1,4 @@
--- The transition system that a search explores: nodes, actions and hint residuals, with nothing said of formulas, bits or bytes.
+-- The transition system that a search explores: nodes, actions, an estimate and hint residuals, with nothing said of formulas, bits or bytes.
 use Prim.Native.Nat.{ℕ}
 use mathlib.Core.Bool.{Bool}
 use mathlib.Core.Option.{Option}
