@@ -1,13 +1,13 @@
 -- The cost of a step list is at most 65,535 for each of its steps.
 use mathlib.Core.Path.{refl}
 use mathlib.Core.List.{List, [], _∷_, List·Memᴰ·head as here, List·Memᴰ·tail as there}
-use Prim.Native.Nat.{ℕ, zero, suc, _+_, _*_, _≤_, _<_}
+use Prim.Native.Nat.{ℕ, zero, suc, _*_, _≤_, _<_}
 use native.Mathlib.Omega.{arith}
 use native.Mathlib.Decide.{decLt}
 use lib.ListN.{length, getD, drop, List·getD-eq-default}
 use Rattle.model.specs.Bits.{number, numberAt}
 use Rattle.model.specs.job.Job.{Action, noAction, actionOf, listOf}
-use Rattle.model.specs.job.Layout.{actionCount, actionOffset, actionAt, jobOf}
+use Rattle.model.specs.job.Layout.{actionCount, costOffset, actionAt, jobOf}
 use Rattle.model.specs.task.Plan.{costOf}
 use Rattle.model.proofs.job.VerdictLaws.{length-listOf, getD-listOf}
 use Rattle.demands.specs.Demand2.{Bytes}
@@ -27,7 +27,7 @@ two-most (b ∷ c ∷ xs) h = omega (arith, h b (here refl), h c (there (here re
 module _ (job : List ℕ) (bytes : Bytes job) where
   at-most : (i : ℕ) → actionAt job i .cost ≤ 65_535
   unfolding actionAt numberAt
-  at-most i = two-most (drop (actionOffset job i + 24) job) (bytes-drop (actionOffset job i + 24) job bytes)
+  at-most i = two-most (drop (costOffset job i) job) (bytes-drop (costOffset job i) job bytes)
 
   cost-most : (i : ℕ) → actionOf (jobOf job) i .cost ≤ 65_535
   unfolding actionOf jobOf noAction

@@ -7,7 +7,7 @@ use mathlib.Core.List.{List, [], _∷_, map, List·Memᴰ, List·Memᴰ·not-nil
 use Prim.Native.Nat.{ℕ, _+_, _≤_, _<_}
 use lib.ListN.{length, length-map}
 use Rattle.model.specs.logic.Formula.{Formula, encode}
-use Rattle.model.specs.logic.Parts.{partsOf}
+use Rattle.model.specs.logic.Parts.{mostParts, partsOf}
 use Rattle.model.specs.job.Job.{Job}
 use Rattle.model.specs.job.Layout.{factCount, actionCount, constraintCount, hintCount, pairOffset, sectionBytes, formulaIn, formulaAt, jobOf}
 use Rattle.model.specs.exploration.Equations.{Answer, Entries, Explores, unbounded, Answers}
@@ -75,8 +75,8 @@ module _ (job : List ℕ) (fine : Accepted job) where
       section-encode (factCount job) (actionCount job) (sectionBytes job (1 + i)) (formulaAt job (1 + i)) (s .0) (s .1)
 
   -- A formula of a list in which each has few parts is read right.
-  read-from : (φs : List Formula) → All (λ φ. length (partsOf φ) ≤ 6) φs → (φ : Formula) → List·Memᴰ φ φs → ReadsRule φ
-  read-from φs h φ m = reads-rule φ (all-at (λ ψ. length (partsOf ψ) ≤ 6) φs m h)
+  read-from : (φs : List Formula) → All (λ φ. length (partsOf φ) ≤ mostParts) φs → (φ : Formula) → List·Memᴰ φ φs → ReadsRule φ
+  read-from φs h φ m = reads-rule φ (all-at (λ ψ. length (partsOf ψ) ≤ mostParts) φs m h)
 
   answers-job : Answers (systemOf j) (Of (systemOf j) (reached (systemOf j))) (solveJob j)
   unfolding solveJob

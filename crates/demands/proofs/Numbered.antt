@@ -12,14 +12,15 @@ use Rattle.model.specs.declared.Verdict.the-variants.{Fine, Bad}
 use Rattle.model.specs.declared.Constant.the-variants.{True}
 use Rattle.model.specs.Bits.{numberAt}
 use Rattle.model.specs.Verdict.{unless, orElse, inTurn}
-use Rattle.model.specs.logic.Parts.{Part, partsOf}
+use Rattle.model.specs.logic.Parts.{mostParts, Part, partsOf}
 use Rattle.model.specs.logic.Reading.{Parsed, formula, wrong, section}
 use Rattle.model.specs.logic.Formula.{constant}
 use Rattle.model.specs.logic.Truth.{holds}
 use Rattle.model.specs.job.Decoding.{countsInRange, partsVerdict, formulaVerdict, headVerdict, sectionStart, rightLength}
 use Rattle.model.specs.job.Decoding.{pairVerdict, pairsVerdict, setVerdict, actionVerdict, taskVerdict, formulasVerdict, jobVerdict}
 use Rattle.model.specs.job.Job.{Job, actionOf}
-use Rattle.model.specs.job.Layout.{factCount, actionCount, constraintCount, hintCount, pairCount, pairOffset, pairLength, actionOffset, formulaIn}
+use Rattle.model.specs.job.Layout.{setBytes, setCount, factCount, actionCount, constraintCount, hintCount, pairCount, pairOffset, pairLength}
+use Rattle.model.specs.job.Layout.{setOffset, formulaIn}
 use Rattle.model.specs.task.State.{within, applicable}
 use Rattle.model.specs.task.Plan.{stateAfter, worlds}
 use Rattle.model.specs.calls.Validate.{lengthVerdict, stepVerdict, goalVerdict, constraintVerdict, stepsVerdict}
@@ -52,7 +53,7 @@ module _ (P : ℕ → Type 0) where
 module _ (P : ℕ → Type 0) (four : P 4) (five : P 5) where
   parts-numbered : (o : ℕ) (ps : List Part) → Numbered P (partsVerdict o ps)
   unfolding partsVerdict
-  parts-numbered o ps = go (drop 6 ps)
+  parts-numbered o ps = go (drop mostParts ps)
     where
       go : (qs : List Part) → Numbered P (elim qs as (λ x. Verdict) [ [] ↦ Fine | p ∷ qs ↦ Bad (record { number = 5; place = o + p .position }) ])
       go [] r e = fine-not-bad e
@@ -71,19 +72,17 @@ module _ (bytes : List ℕ) where
 
   set-numbered : (o : ℕ) → Numbered Early (setVerdict bytes o)
   unfolding setVerdict
-  set-numbered o = with-number Early (ltb (numberAt 8 bytes o) (2 ^ factCount bytes)) 3 o (omega arith, omega arith)
+  set-numbered o = with-number Early (ltb (numberAt setBytes bytes o) (2 ^ factCount bytes)) 3 o (omega arith, omega arith)
 
   action-numbered : (i : ℕ) → Numbered Early (actionVerdict bytes i)
   unfolding actionVerdict
-  action-numbered i =
-      let o : ℕ = actionOffset bytes i in
-      or-else Early _ _ (set-numbered o) (or-else Early _ _ (set-numbered (o + 8)) (set-numbered (o + 16)))
+  action-numbered i = in-turn Early setCount (λ k. setVerdict bytes (setOffset bytes i k)) (λ k. set-numbered (setOffset bytes i k))
 
   task-numbered : Numbered Early (taskVerdict bytes)
   unfolding taskVerdict
   task-numbered =
       or-else Early _ _ (set-numbered (pairOffset bytes 0))
-      (or-else Early _ _ (set-numbered (pairOffset bytes 0 + 8)) (in-turn Early (actionCount bytes) (actionVerdict bytes) action-numbered))
+      (or-else Early _ _ (set-numbered (pairOffset bytes 0 + setBytes)) (in-turn Early (actionCount bytes) (actionVerdict bytes) action-numbered))
 
   pair-numbered : (i : ℕ) → Numbered Early (pairVerdict bytes i)
   unfolding pairVerdict

@@ -11,12 +11,11 @@ use lib.Pow.{pow-mono, pow-pos}
 use borrow.Author.Tests.{eq-eqb}
 use Rattle.model.specs.Bits.{bit}
 use Rattle.model.specs.logic.Formula.{Formula}
-use Rattle.model.specs.logic.Parts.{count, Part, partsOf}
+use Rattle.model.specs.logic.Parts.{mostParts, count, Part, partsOf}
 use Rattle.model.specs.logic.Truth.{World}
 use Rattle.model.specs.logic.Sat.{Sat}
 use Rattle.model.specs.logic.Progression.{residual, progressed, progressedBy, dead, closing}
 use Rattle.model.specs.logic.OwnParts.{OwnParts}
-use Rattle.model.specs.search.Node.{mostParts}
 use Rattle.model.proofs.bits.Bits.{bit-zero}
 use Rattle.model.proofs.logic.SatLaws.{sat-holds}
 use Rattle.model.proofs.logic.PartsLaws.{length-parts}

@@ -12,7 +12,7 @@ use Rattle.model.specs.Bits.{bit}
 use Rattle.model.specs.Verdict.{refusal}
 use Rattle.model.specs.logic.Formula.{Formula, constant, encode}
 use Rattle.model.specs.logic.Reading.{formula, section}
-use Rattle.model.specs.logic.Parts.{partsOf}
+use Rattle.model.specs.logic.Parts.{mostParts, partsOf}
 use Rattle.model.specs.logic.Truth.{World}
 use Rattle.model.specs.logic.Sat.{Sat}
 use Rattle.model.specs.logic.Progression.{residual, progressedBy, dead, closing}
@@ -23,7 +23,7 @@ use Rattle.model.specs.task.State.{within}
 use Rattle.model.specs.task.Plan.{stateAfter, worlds, executable, allowed, costOf}
 use Rattle.model.specs.exploration.Equations.{unbounded, Answer, Entries, Explores, Answers}
 use Rattle.model.specs.exploration.Explore.{Entry, Of, reached}
-use Rattle.model.specs.search.Node.{Node, mostParts}
+use Rattle.model.specs.search.Node.{Node}
 use Rattle.model.specs.search.JobSystem.{systemOf, solveJob, reachedCount}
 use Rattle.model.specs.calls.Validate.{validated}
 use Rattle.model.specs.calls.WriteBack.{WriteEnd, writtenBack}

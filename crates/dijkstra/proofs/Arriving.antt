@@ -6,12 +6,12 @@ use mathlib.Core.Option.{some}
 use mathlib.Core.List.{List, [], _∷_, _++_}
 use mathlib.Core.Logic.{_⊎_, inl, inr}
 use Rattle.model.specs.exploration.Key.{Key, Le, Lt, First}
-use Rattle.model.specs.exploration.System.{System}
+use Rattle.model.specs.exploration.System.{System, rankOf}
 use Rattle.model.specs.exploration.Explore.{Entry}
-use Rattle.model.proofs.exploration.KeyLaws.{le-refl, lt-le, le-lt-trans, not-below, extend-lt, first-trans}
+use Rattle.model.proofs.exploration.KeyLaws.{le-refl, lt-le, le-lt-trans, not-below, rank-step, unrank-lt, first-trans}
 use Rattle.model.proofs.exploration.Laws.{Laws}
 use Rattle.model.proofs.exploration.Gather.{At}
-use Rattle.dijkstra.specs.Records.{Held, Table, pathOf}
+use Rattle.dijkstra.specs.Records.{Held, Table, rankIn, pathOf}
 use Rattle.model.proofs.Tests.{and-both}
 use Rattle.dijkstra.proofs.Slots.{Holds, Put}
 use Rattle.dijkstra.proofs.Invariant.{entry, Linked, Gathers, Inv, Keeps, linked-steps, path-suc, entry-keeps, inv-more}
@@ -23,9 +23,14 @@ module _ (S : System) (laws : Laws S) {m0 : S .Node} {t : Table S} {i : ℕ} {q 
   abbrev y : Entry S
   y = arrival S x b leads
 
-  -- An arrival's key is larger than every taken one.
-  pub above-taken : (s : ℕ) (r : Held S) → Holds t s r → r .taken ≡ true → Lt (r .key) (y .key)
-  above-taken s r h k = le-lt-trans _ _ _ (x .top s r h k) (extend-lt (q .key) (S .cost c))
+  -- An arrival's rank is larger than every taken one.
+  pub above-taken : (s : ℕ) (r : Held S) → Holds t s r → r .taken ≡ true → Lt (rankIn S r) (rankOf S n (y .key))
+  above-taken s r h k = le-lt-trans _ _ _ (x .top s r h k) (rank-step (q .key) (S .cost c) _ _ (laws .consistent (q .node) n c b leads))
+
+  -- An arrival at the node of a taken slot has a larger key, so what is taken is final.
+  pub closed-final : (s : ℕ) (r : Held S) → Holds t s r → r .taken ≡ true → r .node ≡ n → Lt (r .key) (y .key)
+  closed-final s r h k e =
+      unrank-lt (r .key) (y .key) (S .estimate n) (subst (λ (m : S .Node). Lt (rankOf S m (r .key)) (rankOf S n (y .key))) e (above-taken s r h k))
 
   -- An arrival with a larger key than its node's changes nothing.
   pub larger-inv : (j : ℕ) (r : Held S) → Holds t j r → r .node ≡ n → Lt (r .key) (y .key) → Inv S m0 t (Before S t i (suc c))
@@ -71,9 +76,8 @@ module _ (S : System) (laws : Laws S) {m0 : S .Node} {t : Table S} {i : ℕ} {q 
       gathers = λ k. gathers;
       proper = ch .proper;
       low = λ z k e. subst (λ (d : Key). Le d (z .key)) (sym (ch .key)) (low-go z (into z k) (sym (ch .node) ∙ e));
-      above = λ o s r h k. subst (Le (r .key)) (sym (ch .key)) (lt-le _ _ (above-taken s r h k));
+      above = λ o s r h k. subst (Le (rankIn S r)) (λ z. rankOf S (sym (ch .node) z) (sym (ch .key) z)) (lt-le _ _ (above-taken s r h k));
       below = λ k. absurd (true≢false (sym k ∙ ch .isOpen));
-      barren = λ k. absurd (true≢false (sym k ∙ ch .isOpen));
       fresh = λ z k. fresh-go z (into z k);
       more = before-old S x b leads u keeps;
       sent = λ z k. k .0;

@@ -6,23 +6,23 @@ use mathlib.Core.Bool.{Bool, true, false, true≢false}
 use mathlib.Core.Option.{some}
 use mathlib.Core.List.{List, [], _∷_, map}
 use lib.ListN.{length, length-map}
-use Rattle.model.specs.exploration.Key.{Key, zeroKey, extend, Le}
-use Rattle.model.specs.exploration.System.{System}
+use Rattle.model.specs.exploration.Key.{Key, zeroKey, Le, Lt}
+use Rattle.model.specs.exploration.System.{System, rankOf}
 use Rattle.model.specs.exploration.Equations.{up-to, unbounded, Entries, Starts, Explores, NoGoal, some-cut, none-cut}
 use Rattle.model.specs.exploration.Explore.{Entry, Of, reached, solve}
 use Rattle.model.proofs.exploration.Stepping.{arrives-by}
-use Rattle.model.proofs.exploration.KeyLaws.{le-trans, not-below, extend-lt}
+use Rattle.model.proofs.exploration.KeyLaws.{le-trans, not-below}
 use Rattle.model.proofs.exploration.Laws.{Laws, Finite}
 use Rattle.model.proofs.exploration.Each.{All}
 use Rattle.model.proofs.exploration.Counting.{Apart}
 use Rattle.model.proofs.exploration.Uniqueness.{unique}
 use Rattle.model.proofs.exploration.Solves.{reached-solves}
-use Rattle.model.proofs.exploration.Answered.{answer-is, reached-at-least}
-use Rattle.dijkstra.specs.Records.{Held, Table}
+use Rattle.model.proofs.exploration.Answered.{weaken, answer-is, reached-at-least}
+use Rattle.dijkstra.specs.Records.{Held, Table, rankIn}
 use Rattle.dijkstra.specs.Search.{someCutIn, exhausted}
 use Rattle.dijkstra.proofs.Slots.{Holds, holds-one, all-held}
 use Rattle.dijkstra.proofs.Finding.{some-cut-in, none-cut-in}
-use Rattle.dijkstra.proofs.Invariant.{Sent, Inv}
+use Rattle.dijkstra.proofs.Invariant.{Sent, Inv, Barren, start-least, sent-rank}
 use Rattle.dijkstra.proofs.Sending.{Before, source-is}
 use Rattle.dijkstra.proofs.Following.{Crowded}
 use Rattle.dijkstra.proofs.Solution.{Up, up-solves}
@@ -31,15 +31,15 @@ use Rattle.dijkstra.proofs.Solution.{Up, up-solves}
 
 module _ (S : System) (laws : Laws S) (fin : Finite S) {m0 : S .Node} (starts : Starts S m0) where
   -- Where all slots are taken, what they say is the answer.
-  pub exhausted-right : {t : Table S} → Inv S m0 t (Sent S t) → ((i : ℕ) (r : Held S) → Holds t i r → r .taken ≡ true) → solve S ≡ exhausted S t
+  pub exhausted-right : {t : Table S} → Inv S m0 t (Sent S t) → Barren S t → ((i : ℕ) (r : Held S) → Holds t i r → r .taken ≡ true) → solve S ≡ exhausted S t
   unfolding exhausted
-  exhausted-right {t} inv taken = go (someCutIn S t) refl
+  exhausted-right {t} inv barren taken = go (someCutIn S t) refl
     where
       solves : Explores S unbounded (Up S t unbounded)
-      solves = up-solves S starts inv unbounded (λ i r h o. absurd (true≢false (sym (taken i r h) ∙ o))) (λ x z w. z)
+      solves = up-solves S laws starts inv unbounded (λ i r h o. absurd (true≢false (sym (taken i r h) ∙ o))) tt (λ x z w. z)
 
       no-goal : NoGoal S (Up S t unbounded)
-      no-goal n k u g = inv .barren (u .1 .0) (u .1 .1) (u .1 .2) (taken (u .1 .0) (u .1 .1) (u .1 .2)) (ap (S .cut) (u .1 .5) ∙ u .2) (ap (S .goal) (u .1 .3) ∙ g)
+      no-goal n k u g = barren (u .1 .0) (u .1 .1) (u .1 .2) (taken (u .1 .0) (u .1 .1) (u .1 .2)) (ap (S .cut) (u .1 .5) ∙ u .2) (ap (S .goal) (u .1 .3) ∙ g)
 
       go : (a : Bool) → someCutIn S t ≡ a → solve S ≡ exhausted S t
       go true e =
@@ -78,18 +78,6 @@ module _ (S : System) (laws : Laws S) where
     truth : Explores S unbounded R
     truth = reached-solves S laws fin
 
-    -- A solution is one up to any key.
-    up-to-key : (k : Key) → Explores S (up-to k) R
-    up-to-key k = record {
-      start = truth .start;
-      complete = λ w a. truth .complete tt a;
-      arrived = truth .arrived;
-      least = truth .least;
-      conjoined = truth .conjoined;
-      one = truth .one;
-      proper = truth .proper;
-    }
-
     -- The start node is reached.
     pub start-reached : 0 < length (reached S)
     start-reached =
@@ -100,25 +88,26 @@ module _ (S : System) (laws : Laws S) where
       abbrev t : Table S
       t = x .table
 
-      -- Arrivals of keys up to that of slot i are from other slots, so they were made.
-      made : (z : Entry S) → Sent S t z → Le (z .key) (q .key) → Before S t i (x .action) z
+      -- Arrivals of ranks up to that of slot i are from other slots, so they were made.
+      made : (z : Entry S) → Sent S t z → Le (rankOf S (z .node) (z .key)) (rankIn S q) → Before S t i (x .action) z
       made z s l = (
         s,
         λ e.
             let p : s .source ≡ q = source-is S (x .expanding) s e in
-            let d : z .key ≡ extend (q .key) (S .cost (s .action)) = ap (λ (w : Entry S). w .key) (s .is) ∙ ap (λ (r : Held S). extend (r .key) (S .cost (s .action))) p in
-            absurd (not-below (q .key) _ (extend-lt (q .key) (S .cost (s .action))) (subst (λ (k : Key). Le k (q .key)) d l)),
+            absurd (not-below (rankIn S q) _ (subst (λ (r : Held S). Lt (rankIn S r) (rankOf S (z .node) (z .key))) p (sent-rank S laws s)) l),
       )
 
-      solves : Explores S (up-to (q .key)) (Up S t (up-to (q .key)))
-      solves = up-solves S starts (x .expanding .inv) (up-to (q .key))
-          (λ s r h o j l. le-trans j (q .key) (r .key) l (x .expanding .inv .order i s q r (x .expanding .held) h (x .expanding .taken) o)) made
+      solves : Explores S (up-to (rankIn S q)) (Up S t (up-to (rankIn S q)))
+      solves = up-solves S laws starts (x .expanding .inv) (up-to (rankIn S q))
+          (λ s r h o j l. le-trans j (rankIn S q) (rankIn S r) l (x .expanding .inv .order i s q r (x .expanding .held) h (x .expanding .taken) o))
+          (start-least S (x .expanding .inv) laws (q .key .steps) i q (x .expanding .held) refl) made
 
       -- The node of a taken record is reached.
       taken-reached : (s : ℕ) (r : Held S) → Holds t s r → r .taken ≡ true → R (r .node) (r .key) (r .hints)
       taken-reached s r h y =
           let l = x .expanding .top s r h y in
-          unique S laws (up-to (q .key)) (Up S t (up-to (q .key))) R solves (up-to-key (q .key)) (r .node) (r .key) (r .hints) l (s, r, h, refl, refl, refl, l)
+          unique S laws (up-to (rankIn S q)) (Up S t (up-to (rankIn S q))) R solves (weaken S (up-to (rankIn S q)) truth) (r .node) (r .key) (r .hints) l
+          (s, r, h, refl, refl, refl, l)
 
       -- A node to which an action leads from a taken record that is not cut is reached.
       next-reached : (s : ℕ) (r : Held S) → Holds t s r → r .taken ≡ true → S .cut (r .hints) ≡ false → (a : ℕ) → a < S .actions → {n : S .Node} → S .step (r .node) a ≡ some n → (k : Key) × (g : S .Hints) × R n k g

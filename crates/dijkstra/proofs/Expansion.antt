@@ -18,10 +18,10 @@ use Rattle.dijkstra.specs.Records.{Held, Table, find, take-it}
 use Rattle.dijkstra.specs.Search.{Filled, goes-on, full, relaxed, arrive, follow, expand}
 use Rattle.dijkstra.proofs.Slots.{Holds}
 use Rattle.dijkstra.proofs.Finding.{find-none, find-some}
-use Rattle.dijkstra.proofs.Invariant.{Sent, Keeps, inv-map}
+use Rattle.dijkstra.proofs.Invariant.{Sent, inv-map}
 use Rattle.dijkstra.proofs.Sending.{Before, Expanding, source-is}
-use Rattle.dijkstra.proofs.Arriving.{above-taken}
-use Rattle.dijkstra.proofs.Following.{Went, new-went, less-went, larger-went, tied-went, newcomer}
+use Rattle.dijkstra.proofs.Arriving.{closed-final}
+use Rattle.dijkstra.proofs.Following.{Followed, Went, new-went, less-went, larger-went, tied-went, newcomer}
 
 module _ (S : System) (laws : Laws S) (slots : ℕ) where
   module _ {m0 : S .Node} {t : Table S} {i : ℕ} {q : Held S} {c : ℕ} (x : Expanding S m0 t i q c) (b : c < S .actions) where
@@ -58,7 +58,7 @@ module _ (S : System) (laws : Laws S) (slots : ℕ) where
           kept a e = λ d. record { node = r .node; key = r .key; hints = r .hints; parent = r .parent; action = r .action; taken = e d }
 
           go : (a l s : Bool) → r .taken ≡ a → less k (r .key) ≡ l → sameKey k (r .key) ≡ s → Goes (goes-on (set t j (relaxed S t r k h i c)))
-          go true l s e f g = to r (rw (e, relaxed) (kept true e)) (larger-went S laws slots x b j r held leads (above-taken S laws x b leads j r held e))
+          go true l s e f g = to r (rw (e, relaxed) (kept true e)) (larger-went S laws slots x b j r held leads (closed-final S laws x b leads j r held e refl))
           go false true s e f g = to (newcomer S laws slots x b leads) (rw (e, relaxed, f) refl) (less-went S laws slots x b j r held leads e (less-yes _ _ f))
           go false false true e f g = to _ (rw (e, relaxed, f, g) refl) (tied-went S laws slots x b j r held leads e (sym (same-key _ _ g)))
           go false false false e f g = to r (rw (e, relaxed, f, g) (kept false e)) (larger-went S laws slots x b j r held leads (larger f g))
@@ -116,7 +116,7 @@ module _ (S : System) (laws : Laws S) (slots : ℕ) where
     follow-went = go (S .step (q .node) c) refl
       where
         go : (o : Option (S .Node)) → S .step (q .node) c ≡ o → Goes (follow S slots t q i c)
-        go none e = rw (e, follow) (stays e, (λ s r k h. h), λ l. l)
+        go none e = rw (e, follow) (record { expanding = stays e; keeps = λ s r k h. h; back = λ s r k h. h; room = λ l. l })
         go (some n) e = rw (e, follow) (arrive-went e)
 
   -- ---- all actions
@@ -130,15 +130,21 @@ module _ (S : System) (laws : Laws S) (slots : ℕ) where
     -- The actions below c made: the table goes on in that state of the expansion, or it is full.
     pub expand-went : {t : Table S} → Expanding S m0 t i (take-it S r) 0 → (c : ℕ) → c ≤ S .actions → Went S laws slots m0 t i (take-it S r) c (expand S slots t r i c)
     unfolding expand
-    expand-went {t} x zero b = (x, (λ s p k h. h), λ l. l)
+    expand-went {t} x zero b = record { expanding = x; keeps = λ s p k h. h; back = λ s p k h. h; room = λ l. l }
     expand-went {t} x (suc c) b = go (expand S slots t r i c) refl (expand-went x c (omega arith))
       where
-        next : (u : Table S) → Keeps S t u → (length t ≤ slots → length u ≤ slots) → (f : Filled S) → Went S laws slots m0 u i (take-it S r) (suc c) f → Went S laws slots m0 t i (take-it S r) (suc c) f
-        next u keeps l (goes-on w) g = (g .0, (λ s p k h. g .1 s p k (keeps s p k h)), λ e. g .2 (l e))
-        next u keeps l full g = g
+        next : (u : Table S) → Followed S laws slots m0 t i (take-it S r) c u → (f : Filled S)
+            → Went S laws slots m0 u i (take-it S r) (suc c) f → Went S laws slots m0 t i (take-it S r) (suc c) f
+        next u w (goes-on v) g = record {
+          expanding = g .expanding;
+          keeps = λ s p k h. g .keeps s p k (w .keeps s p k h);
+          back = λ s p k h. w .back s p k (g .back s p k h);
+          room = λ l. g .room (w .room l);
+        }
+        next u w full g = g
 
         go : (f : Filled S) → expand S slots t r i c ≡ f → Went S laws slots m0 t i (take-it S r) c (expand S slots t r i c) → Went S laws slots m0 t i (take-it S r) (suc c) (expand S slots t r i (suc c))
         go (goes-on u) e ih =
             let w = rw e at ih in
-            rw (e, expand) (next u (w .1) (w .2) (follow S slots u r i c) (follow-taken (w .0) (omega arith)))
+            rw (e, expand) (next u w (follow S slots u r i c) (follow-taken (w .expanding) (omega arith)))
         go full e ih = rw (e, expand) (rw e at ih)

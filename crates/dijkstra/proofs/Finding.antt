@@ -1,4 +1,4 @@
--- What is found in a table: the slot of a node, the first open slot of the least key, a cut node, and the number of taken slots.
+-- What is found in a table: the slot of a node, the first open slot of the least rank, a cut node, and the number of taken slots.
 use mathlib.Core.Path.{_≡_, refl, sym, ap, _∙_, subst}
 use Prim.Native.Nat.{ℕ, zero, suc, _+_}
 use native.Mathlib.Omega.{arith}
@@ -9,7 +9,7 @@ use Rattle.model.specs.exploration.Key.{Le, less}
 use Rattle.model.specs.exploration.System.{System}
 use Rattle.model.proofs.exploration.KeyLaws.{le-refl, le-trans, lt-le, less-yes, less-no}
 use Rattle.model.proofs.exploration.Laws.{Laws}
-use Rattle.dijkstra.specs.Records.{Held, Open, Table, find, leastOpen}
+use Rattle.dijkstra.specs.Records.{Held, Open, Table, rankIn, find, leastOpen}
 use Rattle.dijkstra.specs.Search.{someCutIn}
 use Rattle.dijkstra.proofs.Slots.{Holds}
 
@@ -53,13 +53,13 @@ module _ (S : System) where
       go none e = absurd (true≢false (sym (laws .same-refl (r .node)) ∙ find-none (r .node) t e i r h))
       go (some j) e = let f = find-some (r .node) t e in e ∙ ap some (sym (alone j (f .0) (f .1) (laws .same-eq _ _ (f .2))))
 
-  -- ---- the first open slot of the least key
+  -- ---- the first open slot of the least rank
 
   -- what `leastOpen` has of a table whose slots are numbered from k on
   abbrev LeastOf : Table S → ℕ → Option Open → Type 0
   LeastOf t k none = (d : ℕ) (r : Held S) → Holds t d r → r .taken ≡ true
-  LeastOf t k (some o) = ((d : ℕ) × (r : Held S) × Holds t d r × (o .slot ≡ k + d) × (r .taken ≡ false) × (o .key ≡ r .key))
-      × ((d : ℕ) (r : Held S) → Holds t d r → r .taken ≡ false → Le (o .key) (r .key))
+  LeastOf t k (some o) = ((d : ℕ) × (r : Held S) × Holds t d r × (o .slot ≡ k + d) × (r .taken ≡ false) × (o .rank ≡ rankIn S r))
+      × ((d : ℕ) (r : Held S) → Holds t d r → r .taken ≡ false → Le (o .rank) (rankIn S r))
 
   -- One more slot in front, taken or open.
   skip-taken : (x : Held S) (t : Table S) (k : ℕ) → x .taken ≡ true → (o : Option Open) → LeastOf t (suc k) o → LeastOf (x ∷ t) k o
@@ -70,24 +70,24 @@ module _ (S : System) where
       go (suc d) r p = h d r p
   skip-taken x t k e (some o) h = ((suc (h .0 .0), h .0 .1, h .0 .2, omega (arith, h .0 .3), h .0 .4, h .0 .5), go)
     where
-      go : (d : ℕ) (r : Held S) → Holds (x ∷ t) d r → r .taken ≡ false → Le (o .key) (r .key)
+      go : (d : ℕ) (r : Held S) → Holds (x ∷ t) d r → r .taken ≡ false → Le (o .rank) (rankIn S r)
       go zero r p f = let q : x ≡ r = cc in absurd (true≢false (sym e ∙ ap (λ (y : Held S). y .taken) q ∙ f))
       go (suc d) r p f = h .1 d r p f
 
   -- the open slot in front is the least
-  front : (x : Held S) (t : Table S) (k : ℕ) → x .taken ≡ false → ((d : ℕ) (r : Held S) → Holds t d r → r .taken ≡ false → Le (x .key) (r .key))
-      → LeastOf (x ∷ t) k (some (record { slot = k; key = x .key }))
+  front : (x : Held S) (t : Table S) (k : ℕ) → x .taken ≡ false → ((d : ℕ) (r : Held S) → Holds t d r → r .taken ≡ false → Le (rankIn S x) (rankIn S r))
+      → LeastOf (x ∷ t) k (some (record { slot = k; rank = rankIn S x }))
   front x t k e h = ((0, x, refl, omega arith, e, refl), go)
     where
-      go : (d : ℕ) (r : Held S) → Holds (x ∷ t) d r → r .taken ≡ false → Le (x .key) (r .key)
-      go zero r p f = let q : x ≡ r = cc in subst (λ (y : Held S). Le (x .key) (y .key)) q (le-refl (x .key))
+      go : (d : ℕ) (r : Held S) → Holds (x ∷ t) d r → r .taken ≡ false → Le (rankIn S x) (rankIn S r)
+      go zero r p f = let q : x ≡ r = cc in subst (λ (y : Held S). Le (rankIn S x) (rankIn S y)) q (le-refl (rankIn S x))
       go (suc d) r p f = h d r p f
 
-  behind : (x : Held S) (t : Table S) (k : ℕ) (o : Open) → Le (o .key) (x .key) → LeastOf t (suc k) (some o) → LeastOf (x ∷ t) k (some o)
+  behind : (x : Held S) (t : Table S) (k : ℕ) (o : Open) → Le (o .rank) (rankIn S x) → LeastOf t (suc k) (some o) → LeastOf (x ∷ t) k (some o)
   behind x t k o e h = ((suc (h .0 .0), h .0 .1, h .0 .2, omega (arith, h .0 .3), h .0 .4, h .0 .5), go)
     where
-      go : (d : ℕ) (r : Held S) → Holds (x ∷ t) d r → r .taken ≡ false → Le (o .key) (r .key)
-      go zero r p f = let q : x ≡ r = cc in subst (λ (y : Held S). Le (o .key) (y .key)) q e
+      go : (d : ℕ) (r : Held S) → Holds (x ∷ t) d r → r .taken ≡ false → Le (o .rank) (rankIn S r)
+      go zero r p f = let q : x ≡ r = cc in subst (λ (y : Held S). Le (o .rank) (rankIn S y)) q e
       go (suc d) r p f = h .1 d r p f
 
   least-of : (t : Table S) (k : ℕ) → LeastOf t k (leastOpen S t k)
@@ -95,28 +95,31 @@ module _ (S : System) where
   least-of [] k = λ d r h. let z : _≡_ {A = ℕ} 0 1 = cc in absurd (omega arith)
   least-of (x ∷ t) k = go (x .taken) refl (leastOpen S t (suc k)) refl (least-of t (suc k))
     where
-      none-open : LeastOf t (suc k) none → (d : ℕ) (r : Held S) → Holds t d r → r .taken ≡ false → Le (x .key) (r .key)
+      none-open : LeastOf t (suc k) none → (d : ℕ) (r : Held S) → Holds t d r → r .taken ≡ false → Le (rankIn S x) (rankIn S r)
       none-open h d r p f = absurd (true≢false (sym (h d r p) ∙ f))
 
       to : (o : Option Open) → leastOpen S (x ∷ t) k ≡ o → LeastOf (x ∷ t) k o → LeastOf (x ∷ t) k (leastOpen S (x ∷ t) k)
       to o e h = subst (LeastOf (x ∷ t) k) (sym e) h
 
-      less-go : (o : Open) (a : Bool) → less (o .key) (x .key) ≡ a → x .taken ≡ false → leastOpen S t (suc k) ≡ some o → LeastOf t (suc k) (some o) → LeastOf (x ∷ t) k (leastOpen S (x ∷ t) k)
+      less-go : (o : Open) (a : Bool) → less (o .rank) (rankIn S x) ≡ a → x .taken ≡ false → leastOpen S t (suc k) ≡ some o → LeastOf t (suc k) (some o)
+          → LeastOf (x ∷ t) k (leastOpen S (x ∷ t) k)
       less-go o true l e f h = to (some o) (rw (e, leastOpen, f, l) refl) (behind x t k o (lt-le _ _ (less-yes _ _ l)) h)
-      less-go o false l e f h = to (some (record { slot = k; key = x .key })) (rw (e, leastOpen, f, l) refl) (front x t k e (λ d r p g. le-trans _ _ _ (less-no _ _ l) (h .1 d r p g)))
+      less-go o false l e f h = to (some (record { slot = k; rank = rankIn S x })) (rw (e, leastOpen, f, l) refl)
+          (front x t k e (λ d r p g. le-trans _ _ _ (less-no _ _ l) (h .1 d r p g)))
 
       go : (a : Bool) → x .taken ≡ a → (o : Option Open) → leastOpen S t (suc k) ≡ o → LeastOf t (suc k) (leastOpen S t (suc k)) → LeastOf (x ∷ t) k (leastOpen S (x ∷ t) k)
       go true e o f ih = to (leastOpen S t (suc k)) (rw (e, leastOpen) refl) (skip-taken x t k e (leastOpen S t (suc k)) ih)
-      go false e none f ih = to (some (record { slot = k; key = x .key })) (rw (e, leastOpen, f) refl) (front x t k e (none-open (rw f at ih)))
-      go false e (some o) f ih = less-go o (less (o .key) (x .key)) refl e f (rw f at ih)
+      go false e none f ih = to (some (record { slot = k; rank = rankIn S x })) (rw (e, leastOpen, f) refl) (front x t k e (none-open (rw f at ih)))
+      go false e (some o) f ih = less-go o (less (o .rank) (rankIn S x)) refl e f (rw f at ih)
 
   -- Where no slot is open, all are taken.
   pub least-none : (t : Table S) → leastOpen S t 0 ≡ none → (i : ℕ) (r : Held S) → Holds t i r → r .taken ≡ true
   least-none t e = rw e at (least-of t 0)
 
-  -- The least open slot is open, and its key is least.
+  -- The least open slot is open, and its rank is least.
   pub least-some : (t : Table S) {o : Open} → leastOpen S t 0 ≡ some o
-      → (r : Held S) × Holds t (o .slot) r × (r .taken ≡ false) × (o .key ≡ r .key) × ((i : ℕ) (q : Held S) → Holds t i q → q .taken ≡ false → Le (o .key) (q .key))
+      → (r : Held S) × Holds t (o .slot) r × (r .taken ≡ false) × (o .rank ≡ rankIn S r) ×
+      ((i : ℕ) (q : Held S) → Holds t i q → q .taken ≡ false → Le (o .rank) (rankIn S q))
   least-some t {o} e =
       let f = rw e at (least-of t 0) in
       let q : f .0 .0 ≡ o .slot = omega (arith, f .0 .3) in

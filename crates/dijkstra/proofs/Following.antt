@@ -38,20 +38,33 @@ module _ (S : System) (laws : Laws S) (slots : ℕ) where
     pub noRoom : slots ≤ length table
     pub new : (s : ℕ) (r : Held S) → Holds table s r → S .same node (r .node) ≡ false
 
+  -- The actions below c from slot i, which holds q, have made u of t: no slot was taken, and the table has not outgrown its slots.
+  pub record Followed (m0 : S .Node) (t : Table S) (i : ℕ) (q : Held S) (c : ℕ) (u : Table S) : Type 0 where
+    pub expanding : Expanding S m0 u i q c
+    pub keeps : Keeps S t u
+    pub back : Keeps S u t
+    pub room : length t ≤ slots → length u ≤ slots
+
   -- what the actions from t up to c come to
   abbrev pub Went : S .Node → Table S → ℕ → Held S → ℕ → Filled S → Type 0
-  Went m0 t i q c (goes-on u) = Expanding S m0 u i q c × Keeps S t u × (length t ≤ slots → length u ≤ slots)
+  Went m0 t i q c (goes-on u) = Followed m0 t i q c u
   Went m0 t i q c full = Crowded m0 i q
 
   module _ {m0 : S .Node} {t : Table S} {i : ℕ} {q : Held S} {c : ℕ} (x : Expanding S m0 t i q c) (b : c < S .actions) where
     -- The next state of an expansion, from its invariant.
-    onwards : (u : Table S) → Keeps S t u → Keeps S u t → Inv S m0 u (Before S u i (suc c)) → Expanding S m0 u i q (suc c)
-    onwards u keeps back inv = record {
-      inv = inv;
-      held = keeps i q (x .taken) (x .held);
-      taken = x .taken;
-      uncut = x .uncut;
-      top = λ s r h k. x .top s r (back s r k h) k;
+    onwards : (u : Table S) → Keeps S t u → Keeps S u t → (length t ≤ slots → length u ≤ slots) → Inv S m0 u (Before S u i (suc c))
+        → Followed m0 t i q (suc c) u
+    onwards u keeps back room inv = record {
+      expanding = record {
+        inv = inv;
+        held = keeps i q (x .taken) (x .held);
+        taken = x .taken;
+        uncut = x .uncut;
+        top = λ s r h k. x .top s r (back s r k h) k;
+      };
+      keeps = keeps;
+      back = back;
+      room = room;
     }
 
     -- ---- a slot that the arrival alone makes
@@ -86,7 +99,7 @@ module _ (S : System) (laws : Laws S) (slots : ℕ) where
 
       -- at a new node
       pub new-went : ((s : ℕ) (r : Held S) → Holds t s r → S .same n (r .node) ≡ false) → length t < slots → Went m0 t i q (suc c) (goes-on (t ++ (newcomer ∷ [])))
-      new-went new l = (onwards u (put-keeps S put free) (put-back S put refl) inv, put-keeps S put free, λ e. simp length-append (omega arith))
+      new-went new l = onwards u (put-keeps S put free) (put-back S put refl) (λ e. simp length-append (omega arith)) inv
         where
           u : Table S
           u = t ++ (newcomer ∷ [])
@@ -132,8 +145,7 @@ module _ (S : System) (laws : Laws S) (slots : ℕ) where
       set-went : (v : Held S) → r .taken ≡ false → v .taken ≡ false → ((u : Table S) → Put t u j v → Inv S m0 u (Before S u i (suc c))) → Went m0 t i q (suc c) (goes-on (set t j v))
       set-went v o w f =
           let put = put-set t j v (holds-lt t j held) in
-          let keeps = put-keeps S put (free o) in
-          (onwards (set t j v) keeps (put-back S put w) (f (set t j v) put), keeps, λ e. simp length-set e)
+          onwards (set t j v) (put-keeps S put (free o)) (put-back S put w) (λ e. simp length-set e) (f (set t j v) put)
 
       -- with a lesser key
       pub less-went : r .taken ≡ false → Lt (y .key) (r .key) → Went m0 t i q (suc c) (goes-on (set t j (newcomer leads)))
@@ -143,7 +155,7 @@ module _ (S : System) (laws : Laws S) (slots : ℕ) where
       -- with a larger key, or a taken slot
       pub larger-went : Lt (r .key) (y .key) → Went m0 t i q (suc c) (goes-on (set t j r))
       larger-went l = subst (λ (u : Table S). Went m0 t i q (suc c) (goes-on u)) (sym (set-held t j r held))
-          (onwards t (λ s p k h. h) (λ s p k h. h) (larger-inv S laws x b leads j r held refl l), (λ s p k h. h), λ e. e)
+          (onwards t (λ s p k h. h) (λ s p k h. h) (λ e. e) (larger-inv S laws x b leads j r held refl l))
 
       -- with the same key
       module _ (o : r .taken ≡ false) (same : r .key ≡ extend (q .key) (S .cost c)) where

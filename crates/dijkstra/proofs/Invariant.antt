@@ -8,12 +8,13 @@ use mathlib.Core.List.{[], _∷_, _++_}
 use mathlib.Core.Logic.{_⊎_, inl, inr, _↔_}
 use lib.ListN.{length, length-append}
 use Rattle.model.specs.exploration.Key.{Key, zeroKey, extend, Le, Lt, First}
-use Rattle.model.specs.exploration.System.{System}
+use Rattle.model.specs.exploration.System.{System, rankOf}
 use Rattle.model.specs.exploration.Explore.{Entry}
-use Rattle.model.proofs.exploration.KeyLaws.{le-refl, lt-le, not-below}
+use Rattle.model.proofs.exploration.KeyLaws.{le-refl, le-trans, lt-le, not-below, rank-step}
+use Rattle.model.proofs.exploration.Laws.{Laws}
 use Rattle.model.proofs.exploration.Arrivals.{To}
 use Rattle.model.proofs.exploration.Gather.{At}
-use Rattle.dijkstra.specs.Records.{Held, Table, pathOf}
+use Rattle.dijkstra.specs.Records.{Held, Table, rankIn, pathOf}
 use Rattle.dijkstra.specs.Search.{pathBy}
 use Rattle.dijkstra.proofs.Slots.{Holds, holds-one}
 
@@ -62,11 +63,13 @@ module _ (S : System) where
     pub proper : (i : ℕ) (r : Held S) → Holds t i r → S .Proper (r .hints)
     -- every arrival is at a node of the table, whose key is not larger
     pub low : (x : Entry S) → P x → (i : ℕ) × (r : Held S) × Holds t i r × (r .node ≡ x .node) × Le (r .key) (x .key)
-    -- no open key is below a taken one
-    pub order : (i j : ℕ) (r q : Held S) → Holds t i r → Holds t j q → r .taken ≡ true → q .taken ≡ false → Le (r .key) (q .key)
-    -- no record taken is an uncut goal
-    pub barren : (i : ℕ) (r : Held S) → Holds t i r → r .taken ≡ true → S .cut (r .hints) ≡ false → S .goal (r .node) ≡ true → ⊥
+    -- no open rank is below a taken one
+    pub order : (i j : ℕ) (r q : Held S) → Holds t i r → Holds t j q → r .taken ≡ true → q .taken ≡ false → Le (rankIn S r) (rankIn S q)
     pub sent : (x : Entry S) → P x → Sent t x
+
+  -- No record taken is an uncut goal.
+  abbrev pub Barren : Table S → Type 0
+  Barren t = (i : ℕ) (r : Held S) → Holds t i r → r .taken ≡ true → S .cut (r .hints) ≡ false → S .goal (r .node) ≡ true → ⊥
 
   -- Taken records of t are in the same slots of u.
   abbrev pub Keeps : Table S → Table S → Type 0
@@ -78,12 +81,22 @@ module _ (S : System) where
   unfolding extend
   linked-steps l = ap (λ (k : Key). k .steps) (l .keyIs)
 
+  -- The record that an action leads from has a lesser rank than the one that it leads to.
+  pub linked-rank : Laws S → {t : Table S} {r : Held S} (l : Linked t r) → Lt (rankIn S (l .source)) (rankIn S r)
+  linked-rank laws {r = r} l = subst (λ (k : Key). Lt (rankIn S (l .source)) (rankOf S (r .node) k)) (sym (l .keyIs))
+      (rank-step (l .source .key) (S .cost (r .action)) _ _ (laws .consistent (l .source .node) (r .node) (r .action) (l .inRange) (l .leads)))
+
+  -- The record that an arrival comes from has a lesser rank than the arrival.
+  pub sent-rank : Laws S → {t : Table S} {x : Entry S} (z : Sent t x) → Lt (rankIn S (z .source)) (rankOf S (x .node) (x .key))
+  sent-rank laws {x = x} z = subst (λ (k : Key). Lt (rankIn S (z .source)) (rankOf S (x .node) k)) (sym (ap (λ (y : Entry S). y .key) (z .is)))
+      (rank-step (z .source .key) (S .cost (z .action)) _ _ (laws .consistent (z .source .node) (x .node) (z .action) (z .inRange) (z .leads)))
+
   -- A path of one more action goes by the parent.
   pub path-suc : (t : Table S) (n i : ℕ) {r : Held S} → Holds t i r → pathOf S t (suc n) i ≡ pathOf S t n (r .parent) ++ (r .action ∷ [])
   unfolding pathOf
   path-suc t n i h = rw (h, pathOf) refl
 
-  -- So does one that goes by a slot and on by an action.
+  -- A path of one more action that goes by a slot and on by an action is the path to the slot and that action.
   pub pathBy-suc : (t : Table S) (n i a : ℕ) {m : ℕ} → m ≡ suc n → pathBy S t m i a ≡ pathOf S t n i ++ (a ∷ [])
   unfolding pathBy
   pathBy-suc t n i a e = ap (λ (m : ℕ). pathBy S t m i a) e
@@ -101,6 +114,18 @@ module _ (S : System) where
     pub zero-slot : (i : ℕ) (r : Held S) → Holds t i r → r .key .steps ≡ 0 → i ≡ 0
     zero-slot zero r h e = refl
     zero-slot (suc i) r h e = let l = inv .linked (suc i) r h (λ z. omega arith) in absurd (omega (arith, linked-steps l))
+
+    -- No rank is below the start's.
+    pub start-least : Laws S → (n i : ℕ) (r : Held S) → Holds t i r → r .key .steps ≡ n → Le (rankOf S m0 zeroKey) (rankIn S r)
+    start-least laws zero i r h e =
+        let at0 : Holds t 0 r = subst (λ (z : ℕ). Holds t z r) (zero-slot i r h e) h in
+        let d : inv .begun .0 ≡ r = holds-one t 0 (inv .begun .1) at0 in
+        subst (λ (q : Held S). Le (rankOf S m0 zeroKey) (rankIn S q)) d
+        (subst (Le (rankOf S m0 zeroKey)) (λ z. rankOf S (sym (inv .begun .2 .0) z) (sym (inv .begun .2 .1) z)) (le-refl _))
+    start-least laws (suc n) i r h e =
+        let l = steps-linked i r h e in
+        let ih = start-least laws n (r .parent) (l .source) (l .held) (omega (arith, linked-steps l)) in
+        le-trans _ _ _ ih (lt-le _ _ (linked-rank laws l))
 
     -- A path has as many actions as its record's key says.
     pub path-length : (n i : ℕ) (r : Held S) → Holds t i r → r .key .steps ≡ n → length (pathOf S t n i) ≡ n
@@ -152,7 +177,6 @@ module _ (S : System) where
       proper = inv .proper;
       low = λ x q. low x (back x q);
       order = inv .order;
-      barren = inv .barren;
       sent = sent;
     }
       where

@@ -8,7 +8,7 @@ use Rattle.model.specs.exploration.Key.{Le}
 use Rattle.model.specs.exploration.System.{System}
 use Rattle.model.specs.exploration.Explore.{Entry}
 use Rattle.model.proofs.exploration.Gather.{At}
-use Rattle.dijkstra.specs.Records.{Held, Table}
+use Rattle.dijkstra.specs.Records.{Held, Table, rankIn}
 use Rattle.dijkstra.proofs.Slots.{Holds, Put, put-each}
 use Rattle.dijkstra.proofs.Invariant.{entry, Linked, Sent, Gathers, Begins, Inv, Keeps, entry-keeps}
 
@@ -25,9 +25,8 @@ module _ (S : System) (m0 : S .Node) where
     pub gathers : (j ≡ 0 → ⊥) → Gathers S Q (entry S u j v)
     pub proper : S .Proper (v .hints)
     pub low : (x : Entry S) → Q x → v .node ≡ x .node → Le (v .key) (x .key)
-    pub above : v .taken ≡ false → (s : ℕ) (r : Held S) → Holds t s r → r .taken ≡ true → Le (r .key) (v .key)
-    pub below : v .taken ≡ true → (s : ℕ) (r : Held S) → Holds t s r → r .taken ≡ false → Le (v .key) (r .key)
-    pub barren : v .taken ≡ true → S .cut (v .hints) ≡ false → S .goal (v .node) ≡ true → ⊥
+    pub above : v .taken ≡ false → (s : ℕ) (r : Held S) → Holds t s r → r .taken ≡ true → Le (rankIn S r) (rankIn S v)
+    pub below : v .taken ≡ true → (s : ℕ) (r : Held S) → Holds t s r → r .taken ≡ false → Le (rankIn S v) (rankIn S r)
     -- what is new in Q is at the node of v
     pub fresh : (x : Entry S) → Q x → P x ⊎ (v .node ≡ x .node)
     pub more : (x : Entry S) → P x → Q x
@@ -85,14 +84,18 @@ module _ (S : System) (m0 : S .Node) where
         go (inl p) = let o = inv .low x p in old (o .0) (o .1) (o .2) (o .3) (o .4) (ℕ-discrete (o .0) j)
         go (inr e) = here e
 
-    put-order : (a b : ℕ) (r q : Held S) → Holds u a r → Holds u b q → r .taken ≡ true → q .taken ≡ false → Le (r .key) (q .key)
-    put-order a b r q h k = put-each (f .put) (λ a r. (b : ℕ) (q : Held S) → Holds u b q → r .taken ≡ true → q .taken ≡ false → Le (r .key) (q .key)) at-new at-old a r h b q k
+    put-order : (a b : ℕ) (r q : Held S) → Holds u a r → Holds u b q → r .taken ≡ true → q .taken ≡ false → Le (rankIn S r) (rankIn S q)
+    put-order a b r q h k = put-each (f .put)
+        (λ a r. (b : ℕ) (q : Held S) → Holds u b q → r .taken ≡ true → q .taken ≡ false → Le (rankIn S r) (rankIn S q)) at-new at-old a r h b q k
       where
-        at-new : (b : ℕ) (q : Held S) → Holds u b q → v .taken ≡ true → q .taken ≡ false → Le (v .key) (q .key)
-        at-new = put-each (f .put) (λ b q. v .taken ≡ true → q .taken ≡ false → Le (v .key) (q .key)) (λ y n. absurd (true≢false (sym y ∙ n))) (λ s r m h y n. f .below y s r h n)
+        at-new : (b : ℕ) (q : Held S) → Holds u b q → v .taken ≡ true → q .taken ≡ false → Le (rankIn S v) (rankIn S q)
+        at-new = put-each (f .put) (λ b q. v .taken ≡ true → q .taken ≡ false → Le (rankIn S v) (rankIn S q)) (λ y n. absurd (true≢false (sym y ∙ n)))
+            (λ s r m h y n. f .below y s r h n)
 
-        at-old : (s : ℕ) (r : Held S) → (s ≡ j → ⊥) → Holds t s r → (b : ℕ) (q : Held S) → Holds u b q → r .taken ≡ true → q .taken ≡ false → Le (r .key) (q .key)
-        at-old s r n h = put-each (f .put) (λ b q. r .taken ≡ true → q .taken ≡ false → Le (r .key) (q .key)) (λ y o. f .above o s r h y) (λ b q m k y o. inv .order s b r q h k y o)
+        at-old : (s : ℕ) (r : Held S) → (s ≡ j → ⊥) → Holds t s r → (b : ℕ) (q : Held S) → Holds u b q → r .taken ≡ true → q .taken ≡ false
+            → Le (rankIn S r) (rankIn S q)
+        at-old s r n h = put-each (f .put) (λ b q. r .taken ≡ true → q .taken ≡ false → Le (rankIn S r) (rankIn S q)) (λ y o. f .above o s r h y)
+            (λ b q m k y o. inv .order s b r q h k y o)
 
     pub put-inv : Inv S m0 u Q
     put-inv = record {
@@ -104,6 +107,5 @@ module _ (S : System) (m0 : S .Node) where
       proper = put-each (f .put) (λ s r. S .Proper (r .hints)) (f .proper) (λ s r m h. inv .proper s r h);
       low = put-low;
       order = put-order;
-      barren = put-each (f .put) (λ s r. r .taken ≡ true → S .cut (r .hints) ≡ false → S .goal (r .node) ≡ true → ⊥) (f .barren) (λ s r m h. inv .barren s r h);
       sent = f .sent;
     }

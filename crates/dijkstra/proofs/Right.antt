@@ -9,7 +9,8 @@ use mathlib.Core.Logic.{_⊎_, inl, inr}
 use lib.ListN.{length}
 use lib.Dec.{ltb}
 use borrow.Author.Tests.{ltb-true, ltb-false}
-use Rattle.model.specs.exploration.System.{System}
+use Rattle.model.specs.exploration.Key.{zeroKey, Le}
+use Rattle.model.specs.exploration.System.{System, rankOf}
 use Rattle.model.specs.exploration.Equations.{no-plan, Starts}
 use Rattle.model.specs.exploration.Explore.{reached, answer, solve}
 use Rattle.model.proofs.exploration.Laws.{Laws, Finite}
@@ -17,6 +18,7 @@ use Rattle.model.proofs.exploration.Fuel.{reached-none}
 use Rattle.dijkstra.specs.Records.{Held, Open, Table, leastOpen, mark}
 use Rattle.dijkstra.specs.Search.{Result, answered, too-small, Filled, goes-on, full, expand, firstGoal, turns, startTable, searchIn}
 use Rattle.dijkstra.proofs.Slots.{Holds}
+use Rattle.dijkstra.proofs.Invariant.{start-least}
 use Rattle.dijkstra.proofs.Finding.{least-none, least-some}
 use Rattle.dijkstra.proofs.Plans.{plan-right}
 use Rattle.dijkstra.proofs.Ends.{exhausted-right, start-reached, crowded}
@@ -34,7 +36,7 @@ module _ (S : System) (slots : ℕ) where
     Turns n = (t : Table S) → Ready S slots m0 t → slots < n + takenIn S t → Right (turns S slots n t)
 
     module _ (n : ℕ) (ih : Turns n) (t : Table S) (ready : Ready S slots m0 t) (more : slots < suc n + takenIn S t) where
-      module _ (o : Open) (e : leastOpen S t 0 ≡ some o) (f : firstGoal S t (o .key) t 0 ≡ none) (r : Held S) (h : Holds t (o .slot) r) where
+      module _ (o : Open) (e : leastOpen S t 0 ≡ some o) (f : firstGoal S t (o .rank) t 0 ≡ none) (r : Held S) (h : Holds t (o .slot) r) where
         abbrev u : Table S
         u = mark S t (o .slot)
 
@@ -47,17 +49,24 @@ module _ (S : System) (slots : ℕ) where
         -- A turn that takes a slot is right, cut or not.
         taking : (a : Bool) → S .cut (r .hints) ≡ a → Right (turns S slots (suc n) t)
         unfolding turns
-        taking true c = let m = turn-cut S slots ready e h f c in rw (e, turns, f, h, c) (ih u (m .0) (omega (arith, m .1)))
+        taking true c = let m = turn-cut S slots ready e h f laws c in rw (e, turns, f, h, c) (ih u (m .0) (omega (arith, m .1)))
         taking false c = expanding (expand S slots u r (o .slot) (S .actions)) c refl (turn-expanded S slots ready e h f laws c)
+
+      -- The start's rank is not above the least open one.
+      begins : (o : Open) → leastOpen S t 0 ≡ some o → Le (rankOf S m0 zeroKey) (o .rank)
+      begins o e =
+          let r = least-some S t e in
+          subst (Le (rankOf S m0 zeroKey)) (sym (r .3)) (start-least S (ready .inv) laws (r .0 .key .steps) (o .slot) (r .0) (r .1) refl)
 
       -- Every turn is right.
       turn : (o : Option Open) → leastOpen S t 0 ≡ o → Right (turns S slots (suc n) t)
       unfolding turns
-      turn none e = rw (e, turns) (inl (ap answered (sym (exhausted-right S laws fin starts (ready .inv) (least-none S t e)))))
-      turn (some o) e = goal (firstGoal S t (o .key) t 0) refl
+      turn none e = rw (e, turns) (inl (ap answered (sym (exhausted-right S laws fin starts (ready .inv) (ready .barren) (least-none S t e)))))
+      turn (some o) e = goal (firstGoal S t (o .rank) t 0) refl
         where
-          goal : (p : Option (List ℕ)) → firstGoal S t (o .key) t 0 ≡ p → Right (turns S slots (suc n) t)
-          goal (some p) f = rw (e, turns, f) (inl (ap answered (sym (plan-right S starts (ready .inv) (o .key) (past S slots ready e) f laws fin))))
+          goal : (p : Option (List ℕ)) → firstGoal S t (o .rank) t 0 ≡ p → Right (turns S slots (suc n) t)
+          goal (some p) f = rw (e, turns, f)
+              (inl (ap answered (sym (plan-right S laws starts (ready .inv) (o .rank) (past S slots ready e) (begins o e) (ready .barren) f fin))))
           goal none f = let r = least-some S t e in taking o e f (r .0) (r .1) (S .cut (r .0 .hints)) refl
 
     pub turns-right : (n : ℕ) → Turns n

@@ -10,7 +10,7 @@ use Rattle.model.specs.exploration.Key.{Le}
 use Rattle.model.specs.exploration.System.{System}
 use Rattle.model.specs.exploration.Explore.{Entry}
 use Rattle.model.proofs.exploration.Arrivals.{To}
-use Rattle.dijkstra.specs.Records.{Held, Table}
+use Rattle.dijkstra.specs.Records.{Held, Table, rankIn}
 use Rattle.dijkstra.proofs.Slots.{Holds, holds-one, Put, put-each}
 use Rattle.dijkstra.proofs.Invariant.{entry, Sent, Inv, Keeps, entry-keeps}
 
@@ -25,8 +25,8 @@ module _ (S : System) where
     pub held : Holds t i q
     pub taken : q .taken ≡ true
     pub uncut : S .cut (q .hints) ≡ false
-    -- no taken key is larger
-    pub top : (s : ℕ) (r : Held S) → Holds t s r → r .taken ≡ true → Le (r .key) (q .key)
+    -- no taken rank is larger
+    pub top : (s : ℕ) (r : Held S) → Holds t s r → r .taken ≡ true → Le (rankIn S r) (rankIn S q)
 
   -- ---- a slot that is not taken put anew
 

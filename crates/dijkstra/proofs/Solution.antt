@@ -1,4 +1,4 @@
--- The records of a table up to a key solve the equations of exploration up to it.
+-- The records of a table up to a rank solve the equations of exploration up to it.
 use mathlib.Core.Path.{_≡_, refl, sym, ap, _∙_, subst}
 use Prim.Native.Nat.{ℕ, zero, suc}
 use native.Mathlib.Omega.{arith}
@@ -6,22 +6,18 @@ use mathlib.Core.Bool.{Bool, true, false}
 use mathlib.Core.Option.{some}
 use mathlib.Core.Logic.{_⊎_, inl, inr, _↔_}
 use Rattle.model.specs.exploration.Key.{Key, zeroKey, extend, Le, Lt}
-use Rattle.model.specs.exploration.System.{System}
+use Rattle.model.specs.exploration.System.{System, rankOf}
 use Rattle.model.specs.exploration.Equations.{Bound, up-to, unbounded, Within, Entries, Starts, Arrives, Explores}
 use Rattle.model.specs.exploration.Explore.{Entry}
-use Rattle.model.proofs.exploration.KeyLaws.{le-trans, lt-le, le-lt-trans, not-below, lt-or-le, extend-lt}
-use Rattle.model.proofs.exploration.Uniqueness.{within-below, arrives-lt}
+use Rattle.model.proofs.exploration.KeyLaws.{le-trans, lt-le, le-lt-trans, not-below, lt-or-le, rank-le, unrank-lt, unrank-le}
+use Rattle.model.proofs.exploration.Laws.{Laws}
+use Rattle.model.proofs.exploration.Uniqueness.{within-below, arrives-rank}
 use Rattle.model.proofs.exploration.Arrivals.{To}
-use Rattle.dijkstra.specs.Records.{Held, Table}
+use Rattle.dijkstra.specs.Records.{Held, Table, rankIn}
 use Rattle.dijkstra.proofs.Slots.{Holds, holds-one}
-use Rattle.dijkstra.proofs.Invariant.{entry, Linked, Sent, Gathers, Inv, low-at}
+use Rattle.dijkstra.proofs.Invariant.{entry, Linked, Sent, Gathers, Inv, low-at, linked-rank, sent-rank}
 
-within-zero : (B : Bound) → Within B zeroKey
-unfolding zeroKey
-within-zero (up-to b) = omega arith
-within-zero unbounded = tt
-
--- A key within the bound is below one that is not.
+-- A rank within the bound is below one that is not.
 within-or : (B : Bound) (j k : Key) → Within B j → Within B k ⊎ Lt j k
 within-or unbounded j k w = inl tt
 within-or (up-to b) j k w = go (lt-or-le b k)
@@ -31,13 +27,13 @@ within-or (up-to b) j k w = go (lt-or-le b k)
     go (inr l) = inl l
 
 module _ (S : System) where
-  -- the records of t with keys within the bound, as a set of entries
+  -- the records of t with ranks within the bound, as a set of entries
   abbrev pub Up : Table S → Bound → Entries S
-  Up t B n k h = (i : ℕ) × (r : Held S) × Holds t i r × (r .node ≡ n) × (r .key ≡ k) × (r .hints ≡ h) × Within B k
+  Up t B n k h = (i : ℕ) × (r : Held S) × Holds t i r × (r .node ≡ n) × (r .key ≡ k) × (r .hints ≡ h) × Within B (rankOf S n k)
 
-  module _ {m0 : S .Node} (starts : Starts S m0) {t : Table S} {P : Entry S → Type 0} (inv : Inv S m0 t P) (B : Bound)
-      (past : (i : ℕ) (r : Held S) → Holds t i r → r .taken ≡ false → (k : Key) → Within B k → Le k (r .key))
-      (made : (x : Entry S) → Sent S t x → Within B (x .key) → P x) where
+  module _ (laws : Laws S) {m0 : S .Node} (starts : Starts S m0) {t : Table S} {P : Entry S → Type 0} (inv : Inv S m0 t P) (B : Bound)
+      (past : (i : ℕ) (r : Held S) → Holds t i r → r .taken ≡ false → (k : Key) → Within B k → Le k (rankIn S r))
+      (begins : Within B (rankOf S m0 zeroKey)) (made : (x : Entry S) → Sent S t x → Within B (rankOf S (x .node) (x .key)) → P x) where
     -- ---- arrivals of the set, and those sent
 
     module _ {n : S .Node} {k : Key} {h : S .Hints} (a : Arrives S (Up t B) n k h) where
@@ -47,8 +43,9 @@ module _ (S : System) where
       abbrev pub as-sent : Entry S
       as-sent = To S (entry S t (a .entry .0) source) n (a .action)
 
-      source-lt : Lt (source .key) k
-      source-lt = subst (λ (z : Key). Lt z k) (sym (a .entry .4)) (arrives-lt S a)
+      source-rank : Lt (rankIn S source) (rankOf S n k)
+      source-rank = subst (λ (m : S .Node). Lt (rankOf S m (source .key)) (rankOf S n k)) (sym (a .entry .3))
+          (subst (λ (z : Key). Lt (rankOf S (a .source) z) (rankOf S n k)) (sym (a .entry .4)) (arrives-rank S laws a))
 
       pub as-sent-key : as-sent .key ≡ k
       as-sent-key = ap (λ (z : Key). extend z (S .cost (a .action))) (a .entry .4) ∙ sym (a .keyIs)
@@ -70,17 +67,17 @@ module _ (S : System) where
       }
 
       -- An arrival within the bound was made.
-      pub was-made : Within B k → P as-sent
-      was-made w = made as-sent (is-sent (go (source .taken) refl)) (subst (Within B) (sym as-sent-key) w)
+      pub was-made : Within B (rankOf S n k) → P as-sent
+      was-made w = made as-sent (is-sent (go (source .taken) refl)) (subst (λ (z : Key). Within B (rankOf S n z)) (sym as-sent-key) w)
         where
           go : (y : Bool) → source .taken ≡ y → source .taken ≡ true
           go true e = e
-          go false e = absurd (not-below (source .key) k source-lt (past (a .entry .0) source (a .entry .2) e k w))
+          go false e = absurd (not-below (rankIn S source) (rankOf S n k) source-rank (past (a .entry .0) source (a .entry .2) e (rankOf S n k) w))
 
-    sent-arrives : (x : Entry S) (z : Sent S t x) → Within B (x .key) → Arrives S (Up t B) (x .node) (x .key) (x .hints)
+    sent-arrives : (x : Entry S) (z : Sent S t x) → Within B (rankOf S (x .node) (x .key)) → Arrives S (Up t B) (x .node) (x .key) (x .hints)
     sent-arrives x z w =
         let e : x .key ≡ extend (z .source .key) (S .cost (z .action)) = ap (λ (y : Entry S). y .key) (z .is) in
-        let l : Lt (z .source .key) (x .key) = subst (Lt (z .source .key)) (sym e) (extend-lt (z .source .key) (S .cost (z .action))) in
+        let l = sent-rank S laws z in
         record {
           source = z .source .node;
           key = z .source .key;
@@ -94,9 +91,10 @@ module _ (S : System) where
           hintsAre = ap (λ (y : Entry S). y .hints) (z .is);
         }
 
-    pub linked-arrives : (r : Held S) (l : Linked S t r) → Within B (r .key) → Arrives S (Up t B) (r .node) (r .key) (S .carry (l .source .hints) (r .node) (r .action))
+    pub linked-arrives : (r : Held S) (l : Linked S t r) → Within B (rankIn S r)
+        → Arrives S (Up t B) (r .node) (r .key) (S .carry (l .source .hints) (r .node) (r .action))
     linked-arrives r l w =
-        let lt : Lt (l .source .key) (r .key) = subst (Lt (l .source .key)) (sym (l .keyIs)) (extend-lt (l .source .key) (S .cost (r .action))) in
+        let lt = linked-rank S laws l in
         record {
           source = l .source .node;
           key = l .source .key;
@@ -113,6 +111,10 @@ module _ (S : System) where
     moved : {n m : S .Node} {k j : Key} {f : S .Hints} → m ≡ n → j ≡ k → Arrives S (Up t B) m j f → Arrives S (Up t B) n k f
     moved {n} {m} {k} {j} {f} p q a = subst (λ (z : S .Node). Arrives S (Up t B) z k f) p (subst (λ (z : Key). Arrives S (Up t B) m z f) q a)
 
+    -- a rank within the bound, of a node and a key that are the same
+    within-at : (m n : S .Node) (j k : Key) → m ≡ n → j ≡ k → Within B (rankOf S n k) → Within B (rankOf S m j)
+    within-at m n j k p q w = subst (λ (z : S .Node). Within B (rankOf S z j)) (sym p) (subst (λ (z : Key). Within B (rankOf S n z)) (sym q) w)
+
     -- ---- the equations
 
     -- Slot 0 is the start's.
@@ -123,12 +125,24 @@ module _ (S : System) where
     solve-start {n} s =
         let e : m0 ≡ n = cc in
         let r = inv .begun in
-        (0, r .0, r .1, r .2 .0 ∙ e, r .2 .1, r .2 .2, within-zero B)
+        (0, r .0, r .1, r .2 .0 ∙ e, r .2 .1, r .2 .2, subst (λ (z : S .Node). Within B (rankOf S z zeroKey)) e begins)
 
-    solve-complete : {n : S .Node} {k : Key} {h : S .Hints} → Within B k → Arrives S (Up t B) n k h → (j : Key) × (g : S .Hints) × Up t B n j g
+    solve-complete : {n : S .Node} {k : Key} {h : S .Hints} → Within B (rankOf S n k) → Arrives S (Up t B) n k h → (j : Key) × (g : S .Hints) × Up t B n j g
     solve-complete {n} {k} w a =
-        let o = inv .low (as-sent a) (was-made a w) in
-        (o .1 .key, o .1 .hints, (o .0, o .1, o .2, o .3, refl, refl, within-below B _ k (subst (Le (o .1 .key)) (as-sent-key a) (o .4)) w))
+        let o = inv .low (as-sent a) (was-made a w) in (
+          o .1 .key,
+          o .1 .hints,
+          (
+            o .0,
+            o .1,
+            o .2,
+            o .3,
+            refl,
+            refl,
+            within-below B _ _
+                (rank-le (o .1 .key) k (S .estimate n) (subst (Le (o .1 .key)) (as-sent-key a) (o .4))) w,
+          ),
+        )
 
     solve-arrived : {n : S .Node} {k : Key} {h : S .Hints} → Up t B n k h → Starts S n ⊎ ((g : S .Hints) × Arrives S (Up t B) n k g)
     solve-arrived {n} {k} {h} l = go (l .0) (l .2)
@@ -137,20 +151,25 @@ module _ (S : System) where
         go zero p = inl (start-node (l .1) p (l .3))
         go (suc i) p =
             let d = inv .linked (suc i) (l .1) p (λ z. omega arith) in
-            inr (S .carry (d .source .hints) (l .1 .node) (l .1 .action), moved (l .3) (l .4) (linked-arrives (l .1) d (subst (Within B) (sym (l .4)) (l .6))))
+            inr (
+              S .carry (d .source .hints) (l .1 .node) (l .1 .action),
+              moved (l .3) (l .4)
+                  (linked-arrives (l .1) d (within-at (l .1 .node) n (l .1 .key) k (l .3) (l .4) (l .6))),
+            )
 
     solve-least : {n : S .Node} {j k : Key} {g h : S .Hints} → Up t B n j g → Arrives S (Up t B) n k h → Le j k
     solve-least {n} {j} {k} l a = go (source a .taken) refl
       where
-        made-least : Within B k ⊎ Lt j k → source a .taken ≡ true → Le j k
+        made-least : Within B (rankOf S n k) ⊎ Lt (rankOf S n j) (rankOf S n k) → source a .taken ≡ true → Le j k
         made-least (inl w) y =
             let q = low-at S inv (l .0) (l .1) (l .2) (as-sent a) (was-made a w) (l .3) in
             subst (λ (z : Key). Le z k) (l .4) (subst (Le (l .1 .key)) (as-sent-key a) q)
-        made-least (inr w) y = lt-le j k w
+        made-least (inr w) y = lt-le j k (unrank-lt j k (S .estimate n) w)
 
         go : (y : Bool) → source a .taken ≡ y → Le j k
-        go true e = made-least (within-or B j k (l .6)) e
-        go false e = le-trans j (source a .key) k (past (a .entry .0) (source a) (a .entry .2) e j (l .6)) (lt-le _ _ (source-lt a))
+        go true e = made-least (within-or B (rankOf S n j) (rankOf S n k) (l .6)) e
+        go false e = unrank-le j k (S .estimate n)
+            (le-trans _ _ _ (past (a .entry .0) (source a) (a .entry .2) e (rankOf S n j) (l .6)) (lt-le _ _ (source-rank a)))
 
     solve-conjoined : {n : S .Node} {k : Key} {h : S .Hints} → (Starts S n → ⊥) → Up t B n k h → (s : S .Setting)
         → (S .trueAt h s ≡ true) ↔ ((g : S .Hints) → Arrives S (Up t B) n k g → S .trueAt g s ≡ true)
@@ -162,7 +181,9 @@ module _ (S : System) where
         by : (i : ℕ) → Gathers S P (entry S t i (l .1)) → (S .trueAt h s ≡ true) ↔ ((g : S .Hints) → Arrives S (Up t B) n k g → S .trueAt g s ≡ true)
         by i q = (
           λ y g a. true-of (as-sent-hints a) ((q .conjoined s) .0 (true-of (sym (l .5)) y) (as-sent a) (was-made a (l .6)) (sym (l .3), as-sent-key a ∙ sym (l .4))),
-          λ f. true-of (l .5) ((q .conjoined s) .1 (λ x p m. f (x .hints) (moved (m .0 ∙ l .3) (m .1 ∙ l .4) (sent-arrives x (inv .sent x p) (subst (Within B) (sym (m .1 ∙ l .4)) (l .6)))))),
+          λ f. true-of (l .5) ((q .conjoined s) .1
+              (λ x p m. f (x .hints) (moved (m .0 ∙ l .3) (m .1 ∙ l .4)
+              (sent-arrives x (inv .sent x p) (within-at (x .node) n (x .key) k (m .0 ∙ l .3) (m .1 ∙ l .4) (l .6)))))),
         )
 
         go : (i : ℕ) → Holds t i (l .1) → (S .trueAt h s ≡ true) ↔ ((g : S .Hints) → Arrives S (Up t B) n k g → S .trueAt g s ≡ true)

@@ -9,7 +9,7 @@ use Rattle.model.specs.exploration.Key.{Le}
 use Rattle.model.specs.exploration.System.{System}
 use Rattle.model.specs.exploration.Explore.{Entry}
 use Rattle.model.proofs.exploration.KeyLaws.{le-refl}
-use Rattle.dijkstra.specs.Records.{Held, Table, take-it, mark, pathOf}
+use Rattle.dijkstra.specs.Records.{Held, Table, rankIn, take-it, mark, pathOf}
 use Rattle.dijkstra.proofs.Slots.{Holds, holds-one, holds-lt, Put, put-each, put-set}
 use Rattle.dijkstra.proofs.Invariant.{entry, Sent, Gathers, Begins, Inv, Keeps, path-keeps, low-at, inv-map}
 use Rattle.dijkstra.proofs.Kept.{put-inv}
@@ -21,7 +21,7 @@ module _ (S : System) where
   mark-is t i h = rw (h, mark) refl
 
   module _ {m0 : S .Node} {t : Table S} (inv : Inv S m0 t (Sent S t)) (i : ℕ) (r : Held S) (held : Holds t i r) (open′ : r .taken ≡ false)
-      (least : (s : ℕ) (p : Held S) → Holds t s p → p .taken ≡ false → Le (r .key) (p .key)) (barren : S .cut (r .hints) ≡ false → S .goal (r .node) ≡ true → ⊥) where
+      (least : (s : ℕ) (p : Held S) → Holds t s p → p .taken ≡ false → Le (rankIn S r) (rankIn S p)) where
     abbrev u : Table S
     u = set t i (take-it S r)
 
@@ -65,7 +65,6 @@ module _ (S : System) where
       low = λ x q e. low-at S inv i r held x (back x q) e;
       above = λ k. absurd (true≢false k);
       below = λ k s p h o. least s p h o;
-      barren = λ k. barren;
       fresh = λ x q. inl (back x q);
       more = to;
       sent = λ x q. sent-on S inv u keeps x (back x q);
@@ -91,7 +90,7 @@ module _ (S : System) where
       held = put .new;
       taken = refl;
       uncut = c;
-      top = put-each put (λ s p. p .taken ≡ true → Le (p .key) (r .key)) (λ k. le-refl (r .key)) (λ s p n h k. inv .order s i p r h held k open′);
+      top = put-each put (λ s p. p .taken ≡ true → Le (rankIn S p) (rankIn S r)) (λ k. le-refl (rankIn S r)) (λ s p n h k. inv .order s i p r h held k open′);
     }
       where
         not-i : (x : Entry S) (z : Sent S t x) → z .slot ≡ i → ⊥

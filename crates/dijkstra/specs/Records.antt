@@ -5,40 +5,48 @@ use mathlib.Core.Option.{Option, none, some}
 use mathlib.Core.List.{List, [], _∷_, _++_}
 use lib.ListN.{getElem?, set}
 use Rattle.model.specs.exploration.Key.{Key, less}
-use Rattle.model.specs.exploration.System.{System}
+use Rattle.model.specs.exploration.System.{System, rankOf}
 
--- a node with the least key so far, its hint residuals, and the slot and action that it was reached from; open until taken
-pub record Held (S : System) : Type 0 where
-  pub node : S .Node
+-- A node of type N with the least key so far, its hint residuals of type H, and the slot and action that it was reached from; open until taken.
+pub record HeldOf (N H : Type 0) : Type 0 where
+  pub node : N
   pub key : Key
-  pub hints : S .Hints
+  pub hints : H
   pub parent : ℕ
   pub action : ℕ
   pub taken : Bool
 
--- an open slot and its key
+-- a record of a system: of its nodes and hint residuals alone, so that systems that differ in the rest have the same records
+abbrev pub Held : System → Type 0
+Held S = HeldOf (S .Node) (S .Hints)
+
+-- an open slot and its rank
 pub record Open : Type 0 where
   pub slot : ℕ
-  pub key : Key
+  pub rank : Key
 
 module _ (S : System) where
   abbrev pub Table : Type 0
   Table = List (Held S)
+
+  -- the rank of a record: cost plus estimate, then steps
+  abbrev pub rankIn : Held S → Key
+  rankIn r = rankOf S (r .node) (r .key)
 
   -- the slot of a node, the slots being numbered from k on
   unfoldable pub find : S .Node → Table → ℕ → Option ℕ
   find n [] k = none
   find n (r ∷ rs) k = elim (S .same n (r .node)) [ true ↦ some k | false ↦ find n rs (suc k) ]
 
-  -- the first open slot of the least key
+  -- the first open slot of the least rank
   unfoldable pub leastOpen : Table → ℕ → Option Open
   unfolding less
   leastOpen [] k = none
   leastOpen (r ∷ rs) k = elim (r .taken) [
     | true ↦ leastOpen rs (suc k)
     | false ↦ elim (leastOpen rs (suc k)) [
-      | none ↦ some (record { slot = k; key = r .key })
-      | some o ↦ elim (less (o .key) (r .key)) [ true ↦ some o | false ↦ some (record { slot = k; key = r .key }) ]
+      | none ↦ some (record { slot = k; rank = rankIn r })
+      | some o ↦ elim (less (o .rank) (rankIn r)) [ true ↦ some o | false ↦ some (record { slot = k; rank = rankIn r }) ]
     ]
   ]
 

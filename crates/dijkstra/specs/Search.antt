@@ -15,11 +15,14 @@ pub data Result : Type 0 where
   answered : Answer → Result
   too-small : Result
 
+-- a table of records of type R that goes on, or one that is full
+pub data FilledOf (R : Type 0) : Type 0 where
+  goes-on : List R → FilledOf R
+  full : FilledOf R
+
 module _ (S : System) where
-  -- a table that goes on, or one that is full
-  pub data Filled : Type 0 where
-    goes-on : Table S → Filled
-    full : Filled
+  abbrev pub Filled : Type 0
+  Filled = FilledOf (Held S)
 
   -- ---- one arrival
 
@@ -98,15 +101,15 @@ module _ (S : System) where
   unfolding someCutIn
   exhausted t = elim (someCutIn t) [ true ↦ no-plan 11 | false ↦ no-plan 12 ]
 
-  -- So many turns. All nodes of the least open key are held, and final, once it is the least: an uncut goal node among them ends the search
-  -- before any of them is expanded. Otherwise the first of them is taken; a cut node leads nowhere, any other is expanded.
+  -- So many turns. All nodes of the least open rank are held, and final, once it is the least: an uncut goal node among them, whose rank is
+  -- its key, ends the search before any of them is expanded. Otherwise the first of them is taken; a cut node leads nowhere, any other is expanded.
   unfoldable pub turns : ℕ → ℕ → Table S → Result
   unfolding leastOpen mark expand firstGoal exhausted
   turns slots zero t = too-small
   turns slots (suc n) t = elim (leastOpen S t 0) [
     | none ↦ answered (exhausted t)
-    | some o ↦ elim (firstGoal t (o .key) t 0) [
-      | some p ↦ answered (plan (o .key .cost) p)
+    | some o ↦ elim (firstGoal t (o .rank) t 0) [
+      | some p ↦ answered (plan (o .rank .cost) p)
       | none ↦ elim (getElem? t (o .slot)) [
         | none ↦ too-small
         | some r ↦ elim (S .cut (r .hints)) [

@@ -8,6 +8,8 @@ use Prim.Native.Nat.{ℕ, suc, _+_, _*_, _≤_, _<_}
 use native.Mathlib.Omega.{arith}
 use lib.ListN.{length}
 use Rattle.model.specs.exploration.Key.{Key, extend, earlier}
+use Rattle.model.specs.search.Query.{Query}
+use Rattle.model.specs.calls.Search.{slotBytes}
 use Rattle.dijkstra.specs.Records.{Held}
 use Rattle.dijkstra.specs.Search.{pathBy}
 use Rattle.dijkstra.proofs.Slots.{Holds}
@@ -22,12 +24,12 @@ use Rattle.held.proofs.Chains.{chained, order-held}
 use Rattle.held.proofs.Steps.{next-fits}
 use Rattle.expansion.specs.Arrivals.{Arriving, Extends, Ties}
 
-module _ {job : List ℕ} {places n : ℕ} {t : List ℕ} {i : ℕ} {from : Slot} {a : ℕ} (x : Arriving job places n t i from a) where
+module _ {job : Query} {places n : ℕ} {t : List ℕ} {i : ℕ} {from : Slot} {a : ℕ} (x : Arriving job places n t i from a) where
   -- There is room for the slots in use, each holds its record, and each is sound.
-  pub room : n * 160 ≤ length t
+  pub room : n * slotBytes ≤ length t
   room = omega (arith, x .running .room, x .running .used)
 
-  pub bytes-slot : (j : ℕ) → j < n → j * 160 + 160 ≤ length t
+  pub bytes-slot : (j : ℕ) → j < n → j * slotBytes + slotBytes ≤ length t
   bytes-slot j l = omega (arith, room)
 
   pub held-slot : (j : ℕ) → j < n → Holds (heldIn job n t) j (heldIs job (slotAt t j))
@@ -84,7 +86,7 @@ module _ {job : List ℕ} {places n : ℕ} {t : List ℕ} {i : ℕ} {from : Slot
     parent-steps = linked-steps (sys job) link ∙ ap (λ (r : Held (sys job)). suc (r .key .steps)) (held-is job n t (old .parent) (link .held) .1)
 
     -- The path to the slot and the new one can be compared: they are equally long.
-    pub comparable : (n * 160 ≤ length t) × Chained (held t n) × (i < n) × (old .parent < n) × (stepsAt (held t n) i ≡ stepsAt (held t n) (old .parent))
+    pub comparable : (n * slotBytes ≤ length t) × Chained (held t n) × (i < n) × (old .parent < n) × (stepsAt (held t n) i ≡ stepsAt (held t n) (old .parent))
     comparable = (
       room,
       chained job n t (x .expanding .inv),

@@ -5,6 +5,7 @@ use Prim.Native.Nat.{ℕ}
 use native.Mathlib.Omega.{arith}
 use lib.ListN.{length}
 use Rattle.model.specs.search.Node.{Node}
+use Rattle.model.specs.search.Query.{Query}
 use Rattle.dijkstra.specs.Search.{Filled, goes-on, full}
 use Rattle.held.specs.Held.{sys, heldIn}
 use Rattle.held.specs.Running.{Running}
@@ -12,7 +13,7 @@ use Rattle.expansion.specs.declared.Grown.{Grown}
 use Rattle.expansion.specs.declared.Grown.the-variants.{Held, Full}
 use Rattle.expansion.specs.Growth.{grownIs, Fits, Grew}
 
-module _ {job : List ℕ} {places : ℕ} {to : Filled (sys job)} {r : Grown} {u : List ℕ} (g : Grew job places to r u) where
+module _ {job : Query} {places : ℕ} {to : Filled (sys job)} {r : Grown} {u : List ℕ} (g : Grew job places to r u) where
   -- The code says full where the table of the list search is full.
   pub grew-none : r ≡ Full → to ≡ full
   unfolding grownIs

@@ -5,15 +5,19 @@ use mathlib.Core.List.{List}
 use Prim.Native.Nat.{ℕ, suc, _+_, _≤_, _<_}
 use native.Mathlib.Omega.{arith}
 use Rattle.model.specs.exploration.Key.{Key, extend}
-use Rattle.model.specs.job.Layout.{constraintCount, hintCount, jobOf}
+use Rattle.model.specs.declared.Verdict.the-variants.{Fine}
+use Rattle.model.specs.job.Layout.{constraintCount, hintCount}
+use Rattle.model.specs.job.Decoding.{jobVerdict}
 use Rattle.model.specs.search.Node.{meetAll}
 use Rattle.model.specs.search.JobSystem.{isGoal}
+use Rattle.model.specs.search.Query.{Query, jobFor}
 use Rattle.task.specs.declared.Key as code
 use Rattle.task.specs.Meaning.{keyIs}
 use Rattle.table.specs.declared.Slot.{Slot}
-use Rattle.nodes.specs.Meaning.{nodeIs, Clean, hintsIs, CleanHints, Costs, Carries}
+use Rattle.nodes.specs.Meaning.{Clean, hintsIs, CleanHints, Costs, Carries}
 use Rattle.nodes.proofs.Hints.{hints-met, clean-met}
-use Rattle.held.specs.Held.{heldIs}
+use Rattle.held.specs.Held.{sys, nodeFor, heldIs}
+use Rattle.held.proofs.JobLaws.{estimate-narrow}
 use Rattle.expansion.specs.Arrivals.{openSlot, keyBy, Extends, Reaches, Makes}
 
 -- The conjunction of a slot's hint residuals and an arrival's.
@@ -23,9 +27,10 @@ met-carries n a b e p k l = record {
   clean = rw e (clean-met n a b p (k .clean) l);
 }
 
-module _ (job : List ℕ) where
+module _ (job : Query) where
   -- One action more makes a key that fits.
-  pub key-reached : (from : Slot) (a c : ℕ) (r : code.Key) → keyIs r ≡ extend (record { cost = from .cost; steps = from .steps }) c → Costs (jobOf job) a c → Extends job from a
+  pub key-reached : (from : Slot) (a c : ℕ) (r : code.Key) → keyIs r ≡ extend (record { cost = from .cost; steps = from .steps }) c → Costs (jobFor job) a c
+      → Extends job from a
       → Reaches (keyBy job from a) r
   unfolding extend
   key-reached from a c r e k x =
@@ -34,12 +39,21 @@ module _ (job : List ℕ) where
       record { is = e ∙ ap (extend (record { cost = from .cost; steps = from .steps })) (k .costs); summed = omega arith; short = omega arith }
 
   -- A slot of right parts.
-  pub opened-makes : (node hints : List ℕ) (key : code.Key) (parent action : ℕ) (goal : Bool) {k : Key} {h : List ℕ} {s : Slot} → s ≡ openSlot node hints key parent action goal
-      → Reaches k key → Carries (hintCount job) h hints → Clean (constraintCount job) node → goal ≡ isGoal (jobOf job) (nodeIs (constraintCount job) node) → parent < 65536 → action < 256
-      → Makes job (record { node = nodeIs (constraintCount job) node; key = k; hints = h; parent = parent; action = action; taken = false }) s
+  pub opened-makes : jobVerdict (job .bytes) ≡ Fine
+      → (node hints : List ℕ) (key : code.Key) (estimate parent action : ℕ) (goal : Bool) {k : Key} {h : List ℕ} {s : Slot}
+      → s ≡ openSlot node hints key estimate parent action goal → Reaches k key → Carries (hintCount (job .bytes)) h hints → Clean
+      (constraintCount (job .bytes)) node
+      → goal ≡ isGoal (jobFor job) (nodeFor job node) → estimate ≡ sys job .estimate (nodeFor job node) → parent < 65536 → action < 256
+      → Makes job (record { node = nodeFor job node; key = k; hints = h; parent = parent; action = action; taken = false }) s
   unfolding heldIs
-  opened-makes node hints key parent action goal e r c n g p a = rw e (record {
-    stands = λ d. record { node = nodeIs (constraintCount job) node; key = r .is d; hints = c .carries d; parent = parent; action = action; taken = false };
-    sound = record { clean = n; cleanHints = c .clean; marked = g; summed = r .summed };
-    narrow = (omega arith, r .short, p, a);
+  opened-makes fine node hints key estimate parent action goal e r c n g left p a = rw e (record {
+    stands = λ d. record { node = nodeFor job node; key = r .is d; hints = c .carries d; parent = parent; action = action; taken = false };
+    sound = record { clean = n; cleanHints = c .clean; marked = g; estimated = left; summed = r .summed };
+    narrow = record {
+      cost = omega arith;
+      steps = r .short;
+      estimate = omega (arith, left, estimate-narrow job fine (nodeFor job node));
+      parent = p;
+      action = a;
+    };
   })

@@ -6,6 +6,7 @@ use Prim.Native.Nat.{ℕ, _<_}
 use native.Mathlib.Omega.{arith}
 use Rattle.model.specs.job.Layout.{hintCount}
 use Rattle.model.specs.search.Node.{meetAll}
+use Rattle.model.specs.search.Query.{Query}
 use Rattle.task.specs.declared.Key as code
 use Rattle.table.specs.declared.Slot.{Slot}
 use Rattle.table.specs.Slots.{Narrow}
@@ -21,7 +22,8 @@ use Rattle.expansion.proofs.Cases.{tied-new, tied-old}
 use Rattle.expansion.proofs.Making.{met-carries, opened-makes}
 use Rattle.expansion.proofs.Arrival.{bytes-slot, sound-slot, compared}
 
-module _ {job : List ℕ} {places n : ℕ} {t : List ℕ} {i : ℕ} {from : Slot} {a : ℕ} (x : Arriving job places n t i from a) {old : Slot} (ties : Ties job n t from a old) where
+module _ {job : Query} {places n : ℕ} {t : List ℕ} {i : ℕ} {from : Slot} {a : ℕ} (x : Arriving job places n t i from a) {old : Slot}
+    (ties : Ties job n t from a old) where
   -- The old slot is sound and within its widths, and its key is kept.
   old-sound : Sound job old
   old-sound = subst (Sound job) (sym (ties .is)) (sound-slot x (ties .slot) (ties .inside))
@@ -31,21 +33,22 @@ module _ {job : List ℕ} {places n : ℕ} {t : List ℕ} {i : ℕ} {from : Slot
 
   key-kept : Reaches (heldIs job old .key) (record { cost = old .cost; steps = old .steps })
   unfolding heldIs
-  key-kept = record { is = refl; summed = old-sound .summed; short = old-narrow .1 }
+  key-kept = record { is = refl; summed = old-sound .summed; short = old-narrow .steps }
 
   -- the slot, by a parent and an action
   abbrev stored : List ℕ → ℕ → ℕ → Slot
-  stored hints p b = openSlot (old .node) hints (record { cost = old .cost; steps = old .steps }) p b (old .goal)
+  stored hints p b = openSlot (old .node) hints (record { cost = old .cost; steps = old .steps }) (old .estimate) p b (old .goal)
 
-  module _ {g h hints : List ℕ} (carried : Carries (hintCount job) h g) (met : hints ≡ meetAll (old .hints) g) where
+  module _ {g h hints : List ℕ} (carried : Carries (hintCount (job .bytes)) h g) (met : hints ≡ meetAll (old .hints) g) where
     abbrev merged : ℕ → ℕ → Held (sys job)
     merged p b = record { node = heldIs job old .node; key = heldIs job old .key; hints = meetAll (heldIs job old .hints) h; parent = p; action = b; taken = false }
 
     makes-merged : (p b : ℕ) {s : Slot} → s ≡ stored hints p b → p < 65536 → b < 256 → Makes job (merged p b) s
     unfolding heldIs
     makes-merged p b e l m =
-        opened-makes job (old .node) hints _ p b (old .goal) e key-kept
-        (met-carries (hintCount job) (old .hints) g met (old-sound .cleanHints) carried (few-hints job (x .running .accepted))) (old-sound .clean) (old-sound .marked) l m
+        opened-makes job (x .running .accepted) (old .node) hints _ (old .estimate) p b (old .goal) e key-kept
+        (met-carries (hintCount (job .bytes)) (old .hints) g met (old-sound .cleanHints) carried (few-hints job (x .running .accepted))) (old-sound .clean)
+        (old-sound .marked) (old-sound .estimated) l m
 
     -- Where the new path comes first, the merged record has its parent and action.
     pub merged-new : {s : Slot} {b : Bool} → s ≡ stored hints i a → b ≡ orderBy (held t n) i a (old .parent) (old .action) → b ≡ true
@@ -61,4 +64,4 @@ module _ {job : List ℕ} {places n : ℕ} {t : List ℕ} {i : ℕ} {from : Slot
     unfolding heldIs
     merged-old e q o =
         rw (tied-old (sys job) (heldIn job n t) (heldIs job old) h i a (compared x ties ∙ sym q ∙ o))
-        (makes-merged (old .parent) (old .action) e (old-narrow .2) (old-narrow .3))
+        (makes-merged (old .parent) (old .action) e (old-narrow .parent) (old-narrow .action))

@@ -5,6 +5,7 @@ use mathlib.Core.List.{List}
 use Prim.Native.Nat.{ℕ, _<_}
 use lib.ListN.{set}
 use Rattle.model.specs.exploration.Key.{Key, less, sameKey}
+use Rattle.model.specs.search.Query.{Query}
 use Rattle.model.proofs.exploration.KeyLaws.{same-key}
 use Rattle.task.specs.declared.Key as code
 use Rattle.task.specs.Meaning.{keyIs}
@@ -19,7 +20,8 @@ use Rattle.expansion.specs.Arrivals.{keyBy, hintsBy, newcomer, Arriving,
 use Rattle.expansion.proofs.Cases.{relaxed-taken, relaxed-less, relaxed-same, relaxed-more}
 use Rattle.expansion.proofs.Arrival.{held-slot}
 
-module _ {job : List ℕ} {places n : ℕ} {t : List ℕ} {i : ℕ} {from : Slot} {a : ℕ} (x : Arriving job places n t i from a) (node : List ℕ) (j : ℕ) (l : j < n) where
+module _ {job : Query} {places n : ℕ} {t : List ℕ} {i : ℕ} {from : Slot} {a : ℕ} (x : Arriving job places n t i from a) (node : List ℕ) (j : ℕ)
+    (l : j < n) where
   abbrev Relaxed : List ℕ → Type 0
   Relaxed u = Relaxes job n t i from a node j u
 

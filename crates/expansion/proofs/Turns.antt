@@ -8,19 +8,19 @@ use native.Mathlib.Omega.{arith}
 use lib.ListN.{length}
 use Rattle.model.specs.exploration.System.{System}
 use Rattle.model.specs.job.Job.{actionOf}
-use Rattle.model.specs.job.Layout.{actionCount, constraintCount, jobOf}
+use Rattle.model.specs.job.Layout.{actionCount}
 use Rattle.model.specs.search.Node.{Node}
 use Rattle.model.specs.task.State.{applicable}
+use Rattle.model.specs.search.Query.{Query, jobFor}
 use Rattle.table.specs.declared.Slot.{Slot}
 use Rattle.table.specs.Slots.{slotAt}
-use Rattle.nodes.specs.Meaning.{nodeIs}
 use Rattle.dijkstra.specs.Records as search
 use Rattle.dijkstra.specs.Records.{take-it}
 use Rattle.dijkstra.specs.Search.{Filled, goes-on, follow, expand}
 use Rattle.dijkstra.proofs.Sending.{Expanding}
 use Rattle.dijkstra.proofs.Following.{Went}
 use Rattle.dijkstra.proofs.Expansion.{follow-taken}
-use Rattle.held.specs.Held.{sys, heldIs, heldIn}
+use Rattle.held.specs.Held.{sys, nodeFor, heldIs, heldIn}
 use Rattle.held.specs.Running.{Running, Busy}
 use Rattle.held.proofs.JobLaws.{sys-laws, sys-actions}
 use Rattle.held.proofs.HeldLaws.{held-is}
@@ -38,22 +38,23 @@ unfolding take-it
 take-again S r e = λ d. record { node = r .node; key = r .key; hints = r .hints; parent = r .parent; action = r .action; taken = sym e d }
 
 -- The actions below a were followed: n0 slots of t0 were in use at first, n of t are now.
-pub record Going (job : List ℕ) (places n0 : ℕ) (t0 : List ℕ) (i : ℕ) (from : Slot) (n : ℕ) (t : List ℕ) (a : ℕ) : Type 0 where
+pub record Going (job : Query) (places n0 : ℕ) (t0 : List ℕ) (i : ℕ) (from : Slot) (n : ℕ) (t : List ℕ) (a : ℕ) : Type 0 where
   pub m0 : Node
   pub running : Running job m0 places n t
   pub expanding : Expanding (sys job) m0 (heldIn job n t) i (heldIs job from) a
   pub inside : i < n
-  pub upTo : a ≤ actionCount job
+  pub upTo : a ≤ actionCount (job .bytes)
   pub followed : expand (sys job) places (heldIn job n0 t0) (heldIs job from) i a ≡ goes-on (heldIn job n t)
 
 -- At first, none was.
-pub going-start : {job : List ℕ} {places n : ℕ} {t : List ℕ} {i : ℕ} {from : Slot} → Busy job places n t i 0 → from ≡ slotAt t i → Going job places n t i from n t 0
+pub going-start : {job : Query} {places n : ℕ} {t : List ℕ} {i : ℕ} {from : Slot} → Busy job places n t i 0 → from ≡ slotAt t i
+    → Going job places n t i from n t 0
 unfolding expand
 going-start {job} {places} {n} {t} {i} b e =
     subst (λ (s : Slot). Going job places n t i s n t 0) (sym e)
     (record { m0 = b .0; running = b .1; expanding = b .3; inside = b .2; upTo = omega arith; followed = refl })
 
-module _ {job : List ℕ} {places n0 : ℕ} {t0 : List ℕ} {i : ℕ} {from : Slot} {n : ℕ} {t : List ℕ} {a : ℕ} (g : Going job places n0 t0 i from n t a) where
+module _ {job : Query} {places n0 : ℕ} {t0 : List ℕ} {i : ℕ} {from : Slot} {n : ℕ} {t : List ℕ} {a : ℕ} (g : Going job places n0 t0 i from n t a) where
   -- what all actions come to
   abbrev all : Filled (sys job)
   all = expand (sys job) places (heldIn job n0 t0) (heldIs job (slotAt t0 i)) i (sys job .actions)
@@ -62,7 +63,7 @@ module _ {job : List ℕ} {places n0 : ℕ} {t0 : List ℕ} {i : ℕ} {from : Sl
   all-from e = ap (λ (s : Slot). expand (sys job) places (heldIn job n0 t0) (heldIs job s) i (sys job .actions)) e
 
   -- After the last action, the table goes on.
-  pub going-end : from ≡ slotAt t0 i → actionCount job ≤ a → Grew job places all (Held n) t
+  pub going-end : from ≡ slotAt t0 i → actionCount (job .bytes) ≤ a → Grew job places all (Held n) t
   unfolding grownIs
   going-end e l =
       let z : sys job .actions ≡ a = omega (arith, sys-actions job, g .upTo) in
@@ -73,7 +74,7 @@ module _ {job : List ℕ} {places n0 : ℕ} {t0 : List ℕ} {i : ℕ} {from : Sl
 
   -- ---- the next action
 
-  module _ (l : a < actionCount job) where
+  module _ (l : a < actionCount (job .bytes)) where
     pub going-next : Arriving job places n t i from a
     going-next = record { m0 = g .m0; running = g .running; expanding = g .expanding; inside = g .inside; known = l }
 
@@ -109,14 +110,14 @@ module _ {job : List ℕ} {places n0 : ℕ} {t0 : List ℕ} {i : ℕ} {from : Sl
         (record {
           m0 = g .m0;
           running = grew-running w (g .running) d k;
-          expanding = x .0;
-          inside = held-is job m u i (x .0 .held) .0;
+          expanding = x .expanding;
+          inside = held-is job m u i (x .expanding .held) .0;
           upTo = l;
           followed = more ∙ e;
         })
 
     -- It goes on, too, where the action is not applicable.
-    pub going-past : applicable (actionOf (jobOf job) a) (nodeIs (constraintCount job) (from .node) .state) ≡ false → Going job places n0 t0 i from n t (a + 1)
+    pub going-past : applicable (actionOf (jobFor job) a) (nodeFor job (from .node) .state) ≡ false → Going job places n0 t0 i from n t (a + 1)
     going-past e = going-on refl (grew-past going-next e) refl
 
 -- What holds of values holds of those that they are equal to.

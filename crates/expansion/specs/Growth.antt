@@ -2,23 +2,41 @@
 use mathlib.Core.Path.{_≡_}
 use mathlib.Core.List.{List}
 use Prim.Native.Nat.{ℕ, _≤_}
-use Rattle.dijkstra.specs.Search.{Filled, goes-on, full}
-use Rattle.held.specs.Held.{sys, heldIn, SoundTo}
+use Rattle.model.specs.search.Query.{Query}
+use Rattle.dijkstra.specs.Search.{Filled, goes-on, full, arrive, follow, expand}
+use Rattle.table.specs.declared.Slot.{Slot}
+use Rattle.table.specs.Slots.{slotAt}
+use Rattle.held.specs.Held.{sys, nodeFor, heldIs, heldIn, SoundTo}
 use Rattle.expansion.specs.declared.Grown.{Grown}
 use Rattle.expansion.specs.declared.Grown.the-variants.{Held, Full}
+use Rattle.expansion.specs.Arrivals.{keyBy, hintsBy}
 
 -- the table that goes on, or that it is full
-unfoldable pub grownIs : (job : List ℕ) → Grown → List ℕ → Filled (sys job)
+unfoldable pub grownIs : (job : Query) → Grown → List ℕ → Filled (sys job)
 unfolding heldIn
 grownIs job (Held n) table = goes-on (heldIn job n table)
 grownIs job Full table = full
 
+-- what the search makes of the first n slots by arrivals from slot i
+module _ (job : Query) (places n : ℕ) (table : List ℕ) (i : ℕ) where
+  -- by one arrival at a node, by action a from the record of a slot
+  abbrev pub arrived : Slot → ℕ → List ℕ → Filled (sys job)
+  arrived from a node = arrive (sys job) places (heldIn job n table) (nodeFor job node) (keyBy job from a) (hintsBy job from a node) i a
+
+  -- by one action from the record of a slot
+  abbrev pub followed : Slot → ℕ → Filled (sys job)
+  followed from a = follow (sys job) places (heldIn job n table) (heldIs job from) i a
+
+  -- by all actions
+  abbrev pub expanded : Filled (sys job)
+  expanded = expand (sys job) places (heldIn job n table) (heldIs job (slotAt table i)) i (sys job .actions)
+
 -- The slots in use are not more than there are, and sound.
-abbrev pub Fits : List ℕ → ℕ → Grown → List ℕ → Type 0
+abbrev pub Fits : Query → ℕ → Grown → List ℕ → Type 0
 Fits job places (Held n) table = (n ≤ places) × SoundTo job n table
 Fits job places Full table = Unit {0}
 
 -- The arrivals came to this table.
-pub record Grew (job : List ℕ) (places : ℕ) (to : Filled (sys job)) (r : Grown) (table : List ℕ) : Type 0 where
+pub record Grew (job : Query) (places : ℕ) (to : Filled (sys job)) (r : Grown) (table : List ℕ) : Type 0 where
   pub grows : to ≡ grownIs job r table
   pub fits : Fits job places r table

@@ -2,6 +2,7 @@
 mod made; // made.rt: the slots that arrivals make
 
 use job::access;
+use model::NODE;
 use table::Found;
 use table::Slot;
 use table::lookup;
@@ -9,16 +10,15 @@ use table::slots;
 use task::Key;
 ghost use mathlib.Core.Path.{_≡_};
 ghost use Prim.Native.Nat.{_<_};
-ghost use Rattle.model.specs.job.Layout.{constraintCount, jobOf};
+ghost use Rattle.model.specs.job.Layout.{constraintCount};
 ghost use Rattle.model.specs.search.Node.{sameNumbers};
-ghost use Rattle.table.specs.Slots.{slotAt};
+ghost use Rattle.model.specs.search.Query.{query, jobFor};
 ghost use Rattle.progression.specs.Workspace.{Workspace};
-ghost use Rattle.nodes.specs.Meaning.{nodeIs, Applies, Clean};
-ghost use Rattle.dijkstra.specs.Search.{arrive, follow, expand};
-ghost use Rattle.held.specs.Held.{sys, heldIs, heldIn};
+ghost use Rattle.nodes.specs.Meaning.{Applies, Clean};
+ghost use Rattle.held.specs.Held.{nodeFor};
 ghost use Rattle.held.specs.Running.{Busy};
-ghost use Rattle.expansion.specs.Arrivals.{keyBy, hintsBy, Arriving, Arrives, Relaxes};
-ghost use Rattle.expansion.specs.Growth.{Grew};
+ghost use Rattle.expansion.specs.Arrivals.{Arriving, Arrives, Relaxes};
+ghost use Rattle.expansion.specs.Growth.{arrived, followed, expanded, Grew};
 
 // How many slots are in use, or that one more was wanted than there are.
 pub enum Grown {
@@ -35,11 +35,12 @@ fn relax(
     i: usize,
     from: Slot,
     a: u8,
-    node: [u64; 9],
+    node: [u64; NODE],
     j: usize,
 )
-    requires { ⌜ Arrives (now job) n (now t) i from a × (j < n) × Workspace (now job) (now work) ⌝ }
-    ensures { λ _. ⌜ Relaxes (now (job .entry)) n (now (t .entry)) i from a node j (now (t .exit)) × Workspace (now (job .entry)) (now (work .exit)) ⌝ }
+    requires { ⌜ Arrives (query (now job)) n (now t) i from a × (j < n) × Workspace (now job) (now work) ⌝ }
+    ensures { λ _. ⌜ Relaxes (query (now (job .entry))) n (now (t .entry)) i from a node j (now (t .exit))
+        × Workspace (now (job .entry)) (now (work .exit)) ⌝ }
 {
     if slots::is_taken(t, j) {
         return;
@@ -71,12 +72,11 @@ fn arrive(
     i: usize,
     from: Slot,
     a: u8,
-    node: [u64; 9],
+    node: [u64; NODE],
 ) -> Grown
-    requires { ⌜ Arriving (now job) places n (now t) i from a × Clean (constraintCount (now job)) node × Workspace (now job) (now work) ⌝ }
-    ensures { λ r. ⌜ Grew (now (job .entry)) places
-        (arrive (sys (now (job .entry))) places (heldIn (now (job .entry)) n (now (t .entry))) (nodeIs (constraintCount (now (job .entry))) node)
-        (keyBy (now (job .entry)) from a) (hintsBy (now (job .entry)) from a node) i a) r (now (t .exit)) × Workspace (now (job .entry)) (now (work .exit)) ⌝ }
+    requires { ⌜ Arriving (query (now job)) places n (now t) i from a × Clean (constraintCount (now job)) node × Workspace (now job) (now work) ⌝ }
+    ensures { λ r. ⌜ Grew (query (now (job .entry))) places (arrived (query (now (job .entry))) places n (now (t .entry)) i from a node) r (now (t .exit))
+        × Workspace (now (job .entry)) (now (work .exit)) ⌝ }
 {
     match lookup::find(t, n, node) {
         Found::At(j) => {
@@ -96,11 +96,11 @@ fn arrive(
 }
 
 // Whether two nodes are the same, all words compared. Most that differ do so in the first word, so the loop starts there.
-fn same_node(a: [u64; 9], b: [u64; 9]) -> bool
+fn same_node(a: [u64; NODE], b: [u64; NODE]) -> bool
     ensures { λ r. ⌜ r ≡ sameNumbers a b ⌝ }
 {
     let mut j = 0;
-    while j < 9 {
+    while j < NODE {
         if a[j] != b[j] {
             return false;
         }
@@ -120,10 +120,9 @@ fn follow(
     from: Slot,
     a: u8,
 ) -> Grown
-    requires { ⌜ Arriving (now job) places n (now t) i from a × Applies (jobOf (now job)) (nodeIs (constraintCount (now job)) (from .node)) a
+    requires { ⌜ Arriving (query (now job)) places n (now t) i from a × Applies (jobFor (query (now job))) (nodeFor (query (now job)) (from .node)) a
         × Workspace (now job) (now work) ⌝ }
-    ensures { λ r. ⌜ Grew (now (job .entry)) places
-        (follow (sys (now (job .entry))) places (heldIn (now (job .entry)) n (now (t .entry))) (heldIs (now (job .entry)) from) i a) r (now (t .exit))
+    ensures { λ r. ⌜ Grew (query (now (job .entry))) places (followed (query (now (job .entry))) places n (now (t .entry)) i from a) r (now (t .exit))
         × Workspace (now (job .entry)) (now (work .exit)) ⌝ }
 {
     let at = from.node;
@@ -148,10 +147,9 @@ pub fn expand(
     places: usize,
     i: usize,
 ) -> Grown
-    requires { ⌜ Busy (now job) places n (now t) i 0 × Workspace (now job) (now work) ⌝ }
-    ensures { λ r. ⌜ Grew (now (job .entry)) places
-        (expand (sys (now (job .entry))) places (heldIn (now (job .entry)) n (now (t .entry))) (heldIs (now (job .entry)) (slotAt (now (t .entry)) i)) i
-        (sys (now (job .entry)) .actions)) r (now (t .exit)) × Workspace (now (job .entry)) (now (work .exit)) ⌝ }
+    requires { ⌜ Busy (query (now job)) places n (now t) i 0 × Workspace (now job) (now work) ⌝ }
+    ensures { λ r. ⌜ Grew (query (now (job .entry))) places (expanded (query (now (job .entry))) places n (now (t .entry)) i) r (now (t .exit))
+        × Workspace (now (job .entry)) (now (work .exit)) ⌝ }
 {
     let from = slots::load(t, i);
     let count = access::action_count(job);

@@ -1,19 +1,20 @@
 // The slots that arrivals make: of a new node, and in place of the slot of a node that is held.
+use model::NODE;
 use table::Slot;
 use task::Key;
 ghost use mathlib.Core.Path.{_≡_};
 ghost use Prim.Native.Nat.{_<_};
 ghost use Rattle.model.specs.job.Layout.{constraintCount, hintCount};
+ghost use Rattle.model.specs.search.Query.{query};
 ghost use Rattle.progression.specs.Workspace.{Workspace};
 ghost use Rattle.nodes.specs.Meaning.{Clean, Carries};
-ghost use Rattle.dijkstra.specs.Search.{tied};
-ghost use Rattle.held.specs.Held.{sys, heldIs, heldIn, Sound};
-ghost use Rattle.expansion.specs.Arrivals.{openSlot, Extends, Reaches, Makes, keyBy, hintsBy, newcomer, Arrives, Ties};
+ghost use Rattle.held.specs.Held.{Sound};
+ghost use Rattle.expansion.specs.Arrivals.{openSlot, Extends, Reaches, Makes, keyBy, hintsBy, newcomer, joined, Arrives, Ties};
 
 // The key of an arrival: the sum fits, since costs are sums of as many 16-bit numbers as there are steps.
 pub fn key_of(job: &[u8], from: Slot, a: u8) -> Key
-    requires { ⌜ Extends (now job) from a ⌝ }
-    ensures { λ r. ⌜ Reaches (keyBy (now (job .entry)) from a) r ⌝ }
+    requires { ⌜ Extends (query (now job)) from a ⌝ }
+    ensures { λ r. ⌜ Reaches (keyBy (query (now (job .entry))) from a) r ⌝ }
 {
     let key = Key {
         cost: from.cost,
@@ -23,23 +24,33 @@ pub fn key_of(job: &[u8], from: Slot, a: u8) -> Key
 }
 
 // The hint residuals of an arrival at a node.
-fn hints_of(job: &[u8], work: &mut [u64], from: Slot, a: u8, node: [u64; 9]) -> [u64; 8]
-    requires { ⌜ Extends (now job) from a × Workspace (now job) (now work) ⌝ }
-    ensures { λ r. ⌜ Carries (hintCount (now (job .entry))) (hintsBy (now (job .entry)) from a node) r × Workspace (now (job .entry)) (now (work .exit)) ⌝ }
+fn hints_of(job: &[u8], work: &mut [u64], from: Slot, a: u8, node: [u64; NODE]) -> [u64; 8]
+    requires { ⌜ Extends (query (now job)) from a × Workspace (now job) (now work) ⌝ }
+    ensures { λ r. ⌜ Carries (hintCount (now (job .entry))) (hintsBy (query (now (job .entry))) from a node) r
+        × Workspace (now (job .entry)) (now (work .exit)) ⌝ }
 {
     let hints = from.hints;
     nodes::next_hints(job, work, hints, node, a)
 }
 
 // A slot of its parts, open.
-fn opened(node: [u64; 9], hints: [u64; 8], key: Key, parent: u64, action: u64, goal: bool) -> Slot
-    ensures { λ r. ⌜ r ≡ openSlot node hints key parent action goal ⌝ }
+fn opened(
+    node: [u64; NODE],
+    hints: [u64; 8],
+    key: Key,
+    estimate: u64,
+    parent: u64,
+    action: u64,
+    goal: bool,
+) -> Slot
+    ensures { λ r. ⌜ r ≡ openSlot node hints key estimate parent action goal ⌝ }
 {
     Slot {
         node,
         hints,
         cost: key.cost,
         steps: key.steps,
+        estimate,
         parent,
         action,
         taken: false,
@@ -47,35 +58,37 @@ fn opened(node: [u64; 9], hints: [u64; 8], key: Key, parent: u64, action: u64, g
     }
 }
 
-// The slot of a new node.
-pub fn fresh(job: &[u8], work: &mut [u64], i: usize, from: Slot, a: u8, node: [u64; 9]) -> Slot
-    requires { ⌜ Extends (now job) from a × (i < 65536) × Clean (constraintCount (now job)) node × Workspace (now job) (now work) ⌝ }
-    ensures { λ r. ⌜ Makes (now (job .entry)) (newcomer (now (job .entry)) i from a node node) r × Workspace (now (job .entry)) (now (work .exit)) ⌝ }
+// The slot of a new node; for now every estimate is 0.
+pub fn fresh(job: &[u8], work: &mut [u64], i: usize, from: Slot, a: u8, node: [u64; NODE]) -> Slot
+    requires { ⌜ Extends (query (now job)) from a × (i < 65536) × Clean (constraintCount (now job)) node × Workspace (now job) (now work) ⌝ }
+    ensures { λ r. ⌜ Makes (query (now (job .entry))) (newcomer (query (now (job .entry))) i from a node node) r
+        × Workspace (now (job .entry)) (now (work .exit)) ⌝ }
 {
     let key = key_of(job, from, a);
     let hints = hints_of(job, work, from, a, node);
     let goal = nodes::is_goal(job, work, node);
-    opened(node, hints, key, i as u64, a as u64, goal)
+    opened(node, hints, key, 0, i as u64, a as u64, goal)
 }
 
-// The slot of a node that is reached by a lesser key: the node is the old one, so it is a goal if that was.
+// The slot of a node that is reached by a lesser key: the node is the old one, so it is a goal if that was, and has its estimate.
 pub fn replaced(
     job: &[u8],
     work: &mut [u64],
     i: usize,
     from: Slot,
     a: u8,
-    node: [u64; 9],
+    node: [u64; NODE],
     key: Key,
     old: Slot,
 ) -> Slot
-    requires { ⌜ Extends (now job) from a × (i < 65536) × Reaches (keyBy (now job) from a) key × Sound (now job) old
+    requires { ⌜ Extends (query (now job)) from a × (i < 65536) × Reaches (keyBy (query (now job)) from a) key × Sound (query (now job)) old
         × Workspace (now job) (now work) ⌝ }
-    ensures { λ r. ⌜ Makes (now (job .entry)) (newcomer (now (job .entry)) i from a node (old .node)) r × Workspace (now (job .entry)) (now (work .exit)) ⌝ }
+    ensures { λ r. ⌜ Makes (query (now (job .entry))) (newcomer (query (now (job .entry))) i from a node (old .node)) r
+        × Workspace (now (job .entry)) (now (work .exit)) ⌝ }
 {
     let hints = hints_of(job, work, from, a, node);
     let same = old.node;
-    opened(same, hints, key, i as u64, a as u64, old.goal)
+    opened(same, hints, key, old.estimate, i as u64, a as u64, old.goal)
 }
 
 // The slot of a node that is reached by an equal key: both ways' hints hold, and the way whose path comes first is kept.
@@ -87,12 +100,12 @@ pub fn merged(
     i: usize,
     from: Slot,
     a: u8,
-    node: [u64; 9],
+    node: [u64; NODE],
     old: Slot,
 ) -> Slot
-    requires { ⌜ Arrives (now job) n (now t) i from a × Ties (now job) n (now t) from a old × Workspace (now job) (now work) ⌝ }
-    ensures { λ r. ⌜ Makes (now (job .entry)) (tied (sys (now (job .entry))) (heldIn (now (job .entry)) n (now (t .entry))) (heldIs (now (job .entry)) old)
-        (hintsBy (now (job .entry)) from a node) i a) r × Workspace (now (job .entry)) (now (work .exit)) ⌝ }
+    requires { ⌜ Arrives (query (now job)) n (now t) i from a × Ties (query (now job)) n (now t) from a old × Workspace (now job) (now work) ⌝ }
+    ensures { λ r. ⌜ Makes (query (now (job .entry))) (joined (query (now (job .entry))) n (now (t .entry)) i from a node old) r
+        × Workspace (now (job .entry)) (now (work .exit)) ⌝ }
 {
     let held = old.hints;
     let hints = progression::met(held, hints_of(job, work, from, a, node));
@@ -104,8 +117,8 @@ pub fn merged(
     let parent = old.parent;
     let action = old.action;
     if paths::comes_first(t, n, i, a as u64, parent as usize, action) {
-        opened(same, hints, key, i as u64, a as u64, old.goal)
+        opened(same, hints, key, old.estimate, i as u64, a as u64, old.goal)
     } else {
-        opened(same, hints, key, parent, action, old.goal)
+        opened(same, hints, key, old.estimate, parent, action, old.goal)
     }
 }

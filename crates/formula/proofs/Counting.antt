@@ -1,19 +1,19 @@
--- Counting the carried parts on the way comes to the list of them: fewer than seven, or the position of the seventh.
+-- Counting the carried parts on the way comes to the list of them: no more than may be, or the position of the seventh.
 use mathlib.Core.Path.{_≡_, refl, sym, ap, _∙_}
 use mathlib.Core.Bool.{Bool, true, false}
 use mathlib.Core.List.{List, [], _∷_, _++_}
 use Prim.Native.Nat.{ℕ, zero, suc, _+_, _<_}
 use native.Mathlib.Omega.{arith}
 use lib.ListN.{drop}
-use lib.Dec.{ltb}
-use borrow.Author.Tests.{lt-ltb}
+use lib.Dec.{leb}
+use borrow.Author.Tests.{lt-ltb, le-leb}
 use Rattle.model.specs.declared.Unary.the-variants.{Not, Next, Eventually, Always}
 use Rattle.model.specs.declared.Binary.the-variants.{And, Or, Until, Release}
 use Rattle.model.specs.declared.Verdict.{Verdict}
 use Rattle.model.specs.declared.Verdict.the-variants.{Fine, Bad}
 use Rattle.model.specs.Verdict.{refusal}
 use Rattle.model.specs.logic.Formula.{Formula, constant, fact, action, unary, binary, choose}
-use Rattle.model.specs.logic.Parts.{Part, parts, partsOf, temporal, size, count}
+use Rattle.model.specs.logic.Parts.{mostParts, Part, parts, partsOf, temporal, size, count}
 use Rattle.model.specs.job.Decoding.{partsVerdict}
 use Rattle.formula.specs.Extent.{none, note, seenIn}
 use Rattle.formula.specs.declared.Seen.{Seen}
@@ -77,35 +77,35 @@ seen-parts (binary Until φ ψ) s n at = in-turn φ ψ (seen-parts φ) (seen-par
 seen-parts (binary Release φ ψ) s n at = in-turn φ ψ (seen-parts φ) (seen-parts ψ) (note s at) (suc n) (suc at) (suc n + count φ) (suc at + size φ)
 
 -- before the seventh part only the count changes
-note-more : (k z at : ℕ) → k < 6 → note (record { parts = k; seventh = z }) at ≡ record { parts = k + 1; seventh = z }
-note-more k z at h = rw (lt-ltb k 6 h)
+note-more : (k z at : ℕ) → k < mostParts → note (record { parts = k; seventh = z }) at ≡ record { parts = k + 1; seventh = z }
+note-more k z at h = rw (lt-ltb k mostParts h)
 
 -- after the seventh part nothing changes
-see-full : (ps : List Part) (z : ℕ) → see (record { parts = 7; seventh = z }) ps ≡ record { parts = 7; seventh = z }
+see-full : (ps : List Part) (z : ℕ) → see (record { parts = mostParts + 1; seventh = z }) ps ≡ record { parts = mostParts + 1; seventh = z }
 unfolding see
 see-full [] z = refl
 see-full (p ∷ ps) z = see-full ps z
 
 -- refusal 5 by what was seen
 abbrev pub seenVerdict : ℕ → Seen → Verdict
-seenVerdict o s = choose (ltb (s .parts) 7) Fine (Bad (refusal 5 (o + s .seventh)))
+seenVerdict o s = choose (leb (s .parts) mostParts) Fine (Bad (refusal 5 (o + s .seventh)))
 
 -- refusal 5 by the parts from the seventh on
 abbrev headVerdict : ℕ → List Part → Verdict
 headVerdict o ps = elim ps [ [] ↦ Fine | p ∷ qs ↦ Bad (refusal 5 (o + p .position)) ]
 
--- with k parts seen, the seventh is the one that j = 6 - k parts stand before
-see-seventh : (o j k z : ℕ) (ps : List Part) → k + j ≡ 6 → seenVerdict o (see (record { parts = k; seventh = z }) ps) ≡ headVerdict o (drop j ps)
+-- with k parts seen, the seventh is the one that j parts stand before, as many as may still come
+see-seventh : (o j k z : ℕ) (ps : List Part) → k + j ≡ mostParts → seenVerdict o (see (record { parts = k; seventh = z }) ps) ≡ headVerdict o (drop j ps)
 unfolding see
-see-seventh o zero k z [] e = rw (lt-ltb k 7 (omega arith))
-see-seventh o (suc j) k z [] e = rw (lt-ltb k 7 (omega arith))
+see-seventh o zero k z [] e = rw (le-leb k mostParts (omega arith))
+see-seventh o (suc j) k z [] e = rw (le-leb k mostParts (omega arith))
 see-seventh o zero k z (p ∷ ps) e =
     ap (seenVerdict o)
-    (ap (λ (x : ℕ). see (note (record { parts = x; seventh = z }) (p .position)) ps) (let h : k ≡ 6 = omega arith in h) ∙ see-full ps (p .position))
+    (ap (λ (x : ℕ). see (note (record { parts = x; seventh = z }) (p .position)) ps) (let h : k ≡ mostParts = omega arith in h) ∙ see-full ps (p .position))
 see-seventh o (suc j) k z (p ∷ ps) e =
     ap (λ (x : Seen). seenVerdict o (see x ps)) (note-more k z (p .position) (omega arith)) ∙ see-seventh o j (k + 1) z ps (omega arith)
 
 -- what is seen in a whole formula decides refusal 5
 pub seen-verdict : (o : ℕ) (φ : Formula) → seenVerdict o (seenIn φ false none 0) ≡ partsVerdict o (partsOf φ)
 unfolding partsVerdict partsOf
-seen-verdict o φ = ap (seenVerdict o) (sym (seen-parts φ none 0 0)) ∙ see-seventh o 6 0 0 (parts φ 0 0) refl
+seen-verdict o φ = ap (seenVerdict o) (sym (seen-parts φ none 0 0)) ∙ see-seventh o mostParts 0 0 (parts φ 0 0) refl

@@ -10,7 +10,7 @@ use borrow.Author.Tests.{ltb-true}
 use Rattle.model.specs.declared.Code.{Code}
 use Rattle.model.specs.declared.Code.the-variants.{Leaf, Fact, Action, One, Two, Unknown}
 use Rattle.model.specs.logic.Formula.{Formula, constant, fact, action, unary, binary, choose, codeOf}
-use Rattle.model.specs.logic.Parts.{size, temporal1, temporal2}
+use Rattle.model.specs.logic.Parts.{mostParts, size, temporal1, temporal2}
 use Rattle.model.specs.logic.Reading.{Parsed, formula, wrong, then, andThen, numbered, operands, node, parse, parsed}
 use Rattle.model.proofs.logic.ReadingLaws.{parsed-size, parsed-inside}
 use Rattle.formula.specs.Extent.{none, isNext, note, noteIf, seenIn, extent}
@@ -22,10 +22,10 @@ use Rattle.formula.specs.declared.Extent.the-variants.{Whole, Wrong}
 module _ (b : ℕ) where
   -- noting a part at most at b keeps the seventh at most at b
   note-inside : (s : Seen) (at : ℕ) → s .seventh ≤ b → at ≤ b → note s at .seventh ≤ b
-  note-inside s at h g = go (ltb (s .parts) 6) (eqb (s .parts) 6)
+  note-inside s at h g = go (ltb (s .parts) mostParts) (eqb (s .parts) mostParts)
     where
       go : (t u : Bool)
-          → choose t (record { parts = s .parts + 1; seventh = s .seventh }) (choose u (record { parts = 7; seventh = at }) s) .seventh ≤ b
+          → choose t (record { parts = s .parts + 1; seventh = s .seventh }) (choose u (record { parts = s .parts + 1; seventh = at }) s) .seventh ≤ b
       go true u = h
       go false true = g
       go false false = h

@@ -10,7 +10,7 @@ use Rattle.model.specs.declared.Code.{Code}
 use Rattle.model.specs.declared.Code.the-variants.{Leaf, Fact, Action, One, Two, Unknown}
 use Rattle.model.specs.logic.Formula.{Formula, constant, fact, action, unary, binary, choose}
 use Rattle.model.specs.logic.Reading.{Parsed, formula, wrong}
-use Rattle.model.specs.logic.Parts.{size, temporal1, temporal2}
+use Rattle.model.specs.logic.Parts.{mostParts, size, temporal1, temporal2}
 use Rattle.formula.specs.declared.Seen.{Seen}
 use Rattle.formula.specs.declared.Extent.{Extent}
 use Rattle.formula.specs.declared.Extent.the-variants.{Whole, Wrong}
@@ -33,11 +33,11 @@ isNext Always = false
 abbrev pub none : Seen
 none = record { parts = 0; seventh = 0 }
 
--- one part more; the count stops at 7
+-- one part more; the count stops at the first part that is too many
 abbrev pub note : Seen → ℕ → Seen
 note s at =
-    choose (ltb (s .parts) 6) (record { parts = s .parts + 1; seventh = s .seventh })
-    (choose (eqb (s .parts) 6) (record { parts = 7; seventh = at }) s)
+    choose (ltb (s .parts) mostParts) (record { parts = s .parts + 1; seventh = s .seventh })
+    (choose (eqb (s .parts) mostParts) (record { parts = s .parts + 1; seventh = at }) s)
 
 abbrev pub noteIf : Bool → Seen → ℕ → Seen
 noteIf true s at = note s at

@@ -2,6 +2,7 @@
 use model::Binary;
 use model::Code;
 use model::Constant;
+use model::MOST_PARTS;
 use model::Refusal;
 use model::Unary;
 use model::Verdict;
@@ -15,7 +16,7 @@ ghost use Rattle.formula.specs.Extent.{extent, numberExtent, carries, is
 ghost use mathlib.Core.Bool.{_||_};
 ghost use Rattle.model.specs.Verdict.{refusal};
 
-// The carried parts on the way: how many, counted up to 7, and the position of the seventh.
+// The carried parts on the way: how many, counted up to the first that is too many, and the position of that one, the seventh.
 pub struct Seen {
     pub parts: usize,
     pub seventh: usize,
@@ -102,15 +103,15 @@ fn noted(seen: Seen, at: usize) -> Seen
     ensures { λ r. ⌜ r ≡ note seen at ⌝ }
 {
     let parts = seen.parts;
-    if parts < 6 {
+    if parts < MOST_PARTS {
         return Seen {
             parts: parts + 1,
             seventh: seen.seventh,
         };
     }
-    if parts == 6 {
+    if parts == MOST_PARTS {
         return Seen {
-            parts: 7,
+            parts: parts + 1,
             seventh: at,
         };
     }
@@ -178,7 +179,7 @@ pub fn check(s: &[u8], offset: usize, facts: u8, actions: u8) -> Verdict
             if n < s.len() {
                 return refused(4, offset + n);
             }
-            if seen.parts < 7 {
+            if seen.parts <= MOST_PARTS {
                 return Verdict::Fine;
             }
             refused(5, offset + seen.seventh)

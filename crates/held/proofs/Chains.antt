@@ -7,6 +7,8 @@ use lib.ListN.{length, getD, take}
 use Rattle.model.specs.exploration.Key.{earlier}
 use Rattle.model.specs.exploration.Explore.{Entry}
 use Rattle.model.specs.search.Node.{Node}
+use Rattle.model.specs.search.Query.{Query}
+use Rattle.model.specs.calls.Search.{slotBytes}
 use Rattle.dijkstra.specs.Records.{Held, Table, pathOf}
 use Rattle.dijkstra.specs.Search.{pathBy}
 use Rattle.dijkstra.proofs.Invariant.{Linked, Inv, linked-steps, path-suc, pathBy-suc, steps-linked}
@@ -20,7 +22,7 @@ use Rattle.held.proofs.HeldLaws.{held-map, all-held-at, all-held-is}
 
 -- ---- any slots, whose records are a search's table
 
-module _ (job : List ℕ) {m0 : Node} (ss : List Slot) {P : Entry (sys job) → Type 0} (inv : Inv (sys job) m0 (map (heldIs job) ss) P) where
+module _ (job : Query) {m0 : Node} (ss : List Slot) {P : Entry (sys job) → Type 0} (inv : Inv (sys job) m0 (map (heldIs job) ss) P) where
   abbrev T : Table (sys job)
   T = map (heldIs job) ss
 
@@ -58,7 +60,7 @@ module _ (job : List ℕ) {m0 : Node} (ss : List Slot) {P : Entry (sys job) → 
 
 -- ---- the first n slots of a table
 
-module _ (job : List ℕ) {m0 : Node} (n : ℕ) (t : List ℕ) {P : Entry (sys job) → Type 0} (inv : Inv (sys job) m0 (heldIn job n t) P) where
+module _ (job : Query) {m0 : Node} (n : ℕ) (t : List ℕ) {P : Entry (sys job) → Type 0} (inv : Inv (sys job) m0 (heldIn job n t) P) where
   inv-map : Inv (sys job) m0 (map (heldIs job) (take n (slots t))) P
   inv-map = subst (λ (u : Table (sys job)). Inv (sys job) m0 u P) (held-map job n t) inv
 
@@ -67,14 +69,14 @@ module _ (job : List ℕ) {m0 : Node} (n : ℕ) (t : List ℕ) {P : Entry (sys j
   chained = chained-in job (take n (slots t)) inv-map
 
   -- The last m actions that lead to slot i are the same for the records and the slots.
-  pub path-held : n * 160 ≤ length t → (m i : ℕ) → i < n → m ≤ slotAt t i .steps → pathOf (sys job) (heldIn job n t) m i ≡ slotPath (take n (slots t)) m i
+  pub path-held : n * slotBytes ≤ length t → (m i : ℕ) → i < n → m ≤ slotAt t i .steps → pathOf (sys job) (heldIn job n t) m i ≡ slotPath (take n (slots t)) m i
   path-held h m i l k =
       let a : i < length (take n (slots t)) = omega (arith, length-first t n h) in
       let b : stepsAt (take n (slots t)) i ≡ slotAt t i .steps = ap (λ (s : Slot). s .steps) (first-at t n i l) in
       rw (held-map job n t) (path-in job (take n (slots t)) inv-map m i a (omega arith))
 
   -- Of two ways of k steps, by slot i and action a and by slot j and action b, the order is that of the slots' paths.
-  pub order-held : n * 160 ≤ length t → (k i a j b : ℕ) → i < n → j < n → k ≡ suc (slotAt t i .steps) → k ≡ suc (slotAt t j .steps)
+  pub order-held : n * slotBytes ≤ length t → (k i a j b : ℕ) → i < n → j < n → k ≡ suc (slotAt t i .steps) → k ≡ suc (slotAt t j .steps)
       → earlier (pathBy (sys job) (heldIn job n t) k i a) (pathBy (sys job) (heldIn job n t) k j b) ≡ orderBy (take n (slots t)) i a j b
   order-held h k i a j b l m e f =
       let ss = take n (slots t) in

@@ -5,6 +5,8 @@ use mathlib.Core.List.{List, [], _∷_, map}
 use Prim.Native.Nat.{ℕ, zero, suc, _*_, _≤_, _<_}
 use native.Mathlib.Omega.{arith}
 use lib.ListN.{length, getD, getElem?, take, length-map, length-take}
+use Rattle.model.specs.search.Query.{Query}
+use Rattle.model.specs.calls.Search.{slotBytes}
 use Rattle.model.proofs.job.VerdictLaws.{all-getD}
 use Rattle.dijkstra.specs.Records.{Held}
 use Rattle.dijkstra.proofs.Slots.{Holds, holds-one, holds-lt}
@@ -19,7 +21,7 @@ map-at f [] i d h = absurd (omega arith)
 map-at f (x ∷ l) zero d h = refl
 map-at f (x ∷ l) (suc i) d h = map-at f l i d (omega arith)
 
-module _ (job : List ℕ) where
+module _ (job : Query) where
   -- The records are those of the slots, one by one.
   pub held-map : (n : ℕ) (t : List ℕ) → heldIn job n t ≡ map (heldIs job) (take n (slots t))
   unfolding heldIn
@@ -46,11 +48,11 @@ module _ (job : List ℕ) where
 
   module _ (n : ℕ) (t : List ℕ) where
     -- There are n records, where there is room for as many slots.
-    pub length-held : n * 160 ≤ length t → length (heldIn job n t) ≡ n
+    pub length-held : n * slotBytes ≤ length t → length (heldIn job n t) ≡ n
     length-held h = rw (held-map n t) (length-all (take n (slots t)) ∙ length-first t n h)
 
     -- Slot i holds the record that it stands for.
-    pub held-at : (i : ℕ) → i < n → n * 160 ≤ length t → Holds (heldIn job n t) i (heldIs job (slotAt t i))
+    pub held-at : (i : ℕ) → i < n → n * slotBytes ≤ length t → Holds (heldIn job n t) i (heldIs job (slotAt t i))
     held-at i l h =
         let m : i < length (take n (slots t)) = omega (arith, length-first t n h) in
         rw (held-map n t, ← first-at t n i l) (all-held-at (take n (slots t)) i m)
@@ -63,7 +65,7 @@ module _ (job : List ℕ) where
         (l, p .1 ∙ ap (heldIs job) (first-at t n i l))
 
     -- Each slot in use is sound.
-    pub sound-at : SoundTo job n t → (i : ℕ) → i < n → n * 160 ≤ length t → Sound job (slotAt t i)
+    pub sound-at : SoundTo job n t → (i : ℕ) → i < n → n * slotBytes ≤ length t → Sound job (slotAt t i)
     sound-at s i l h =
         let m : i < length (take n (slots t)) = omega (arith, length-first t n h) in
         subst (Sound job) (first-at t n i l) (all-getD (Sound job) noSlot (take n (slots t)) s i m)

@@ -3,16 +3,18 @@ use mathlib.Core.Path.{_≡_, refl, sym, ap, _∙_}
 use mathlib.Core.Bool.{Bool, true, false}
 use mathlib.Core.Option.{Option, none, some}
 use mathlib.Core.List.{List, [], _∷_, map}
-use Prim.Native.Nat.{ℕ, suc, _≤_}
+use Prim.Native.Nat.{ℕ, suc, _+_, _*_, _≤_}
 use native.Mathlib.Omega.{arith}
-use lib.ListN.{take}
+use lib.ListN.{length, take}
 use Rattle.model.specs.logic.Formula.{choose}
 use Rattle.model.specs.exploration.Key.{Key, less}
 use Rattle.model.specs.job.Layout.{constraintCount}
 use Rattle.model.specs.search.Node.{sameNumbers, sameNode}
+use Rattle.model.specs.search.Query.{Query}
+use Rattle.model.specs.calls.Search.{slotBytes}
 use Rattle.model.proofs.exploration.Each.{All}
 use Rattle.dijkstra.specs.Records as search
-use Rattle.dijkstra.specs.Records.{Held, find, leastOpen}
+use Rattle.dijkstra.specs.Records.{rankIn, find, leastOpen}
 use Rattle.dijkstra.proofs.Finding.{least-some}
 use Rattle.table.specs.declared.Slot.{Slot}
 use Rattle.table.specs.declared.Found.{Found}
@@ -20,85 +22,98 @@ use Rattle.table.specs.declared.Found.the-variants.{At, Nothing}
 use Rattle.table.specs.declared.Best.{Best}
 use Rattle.table.specs.declared.Best.the-variants.{Open, NoOpen}
 use Rattle.table.specs.Slots.{slots, slotAt}
-use Rattle.table.specs.Lookup.{findIn, keyOf, leastIn, slotOfBest}
-use Rattle.nodes.specs.Meaning.{nodeIs, Clean}
+use Rattle.table.specs.Lookup.{findIn, keyOf, rankAt, leastIn, slotOfBest}
+use Rattle.nodes.specs.Meaning.{Clean}
 use Rattle.nodes.proofs.Same.{same-nodes}
-use Rattle.held.specs.Held.{sys, heldIs, heldIn, Sound, SoundTo, slotOption}
-use Rattle.held.proofs.HeldLaws.{held-map, held-is}
+use Rattle.held.specs.Held.{sys, nodeFor, heldIs, heldIn, Sound, SoundTo, slotOption}
+use Rattle.held.proofs.HeldLaws.{held-map, held-is, sound-at}
 
 -- the best open slot as an option
 abbrev pub bestOption : Best → Option search.Open
-bestOption (Open i c k) = some (record { slot = i; key = keyOf c k })
+bestOption (Open i c k) = some (record { slot = i; rank = keyOf c k })
 bestOption NoOpen = none
 
-module _ (job : List ℕ) where
-  held-node : (s : Slot) → heldIs job s .node ≡ nodeIs (constraintCount job) (s .node)
+module _ (job : Query) where
+  held-node : (s : Slot) → heldIs job s .node ≡ nodeFor job (s .node)
   unfolding heldIs
   held-node s = refl
 
-  held-key : (s : Slot) → heldIs job s .key ≡ keyOf (s .cost) (s .steps)
+  -- The rank of a sound slot's record is the slot's.
+  pub held-rank : (s : Slot) → Sound job s → rankIn (sys job) (heldIs job s) ≡ rankAt s
   unfolding heldIs
-  held-key s = refl
+  held-rank s h = ap (λ (e : ℕ). keyOf (s .cost + e) (s .steps)) (sym (h .estimated))
 
   -- ---- the slot of a node
 
-  module _ (few : constraintCount job ≤ 8) (node : List ℕ) (clean : Clean (constraintCount job) node) where
-    find-all : (ss : List Slot) → All (Sound job) ss → (k : ℕ) → find (sys job) (nodeIs (constraintCount job) node) (map (heldIs job) ss) k ≡ slotOption (findIn node ss k)
+  module _ (few : constraintCount (job .bytes) ≤ 8) (node : List ℕ) (clean : Clean (constraintCount (job .bytes)) node) where
+    find-all : (ss : List Slot) → All (Sound job) ss → (k : ℕ) → find (sys job) (nodeFor job node) (map (heldIs job) ss) k ≡ slotOption (findIn node ss k)
     unfolding find findIn
     find-all [] h k = refl
     find-all (s ∷ ss) h k = go (sameNumbers node (s .node)) refl (find-all ss (h .1) (suc k))
       where
-        same : sameNumbers node (s .node) ≡ sameNode (nodeIs (constraintCount job) node) (heldIs job s .node)
-        same = same-nodes (constraintCount job) node (s .node) clean (h .0 .clean) few ∙ ap (sameNode (nodeIs (constraintCount job) node)) (sym (held-node s))
+        same : sameNumbers node (s .node) ≡ sameNode (nodeFor job node) (heldIs job s .node)
+        same = same-nodes (constraintCount (job .bytes)) node (s .node) clean (h .0 .clean) few ∙ ap (sameNode (nodeFor job node)) (sym (held-node s))
 
-        go : (b : Bool) → sameNumbers node (s .node) ≡ b → find (sys job) (nodeIs (constraintCount job) node) (map (heldIs job) ss) (suc k) ≡ slotOption (findIn node ss (suc k))
-            → find (sys job) (nodeIs (constraintCount job) node) (map (heldIs job) (s ∷ ss)) k ≡ slotOption (findIn node (s ∷ ss) k)
+        go : (b : Bool) → sameNumbers node (s .node) ≡ b → find (sys job) (nodeFor job node) (map (heldIs job) ss) (suc k) ≡ slotOption (findIn node ss (suc k))
+            → find (sys job) (nodeFor job node) (map (heldIs job) (s ∷ ss)) k ≡ slotOption (findIn node (s ∷ ss) k)
         go true e ih = let q = sym same ∙ e in rw (e, findIn, q, find)
         go false e ih = let q = sym same ∙ e in rw (e, findIn, q, find) ih
 
     -- The slot of a node, among n sound slots.
-    pub find-held : (n : ℕ) (t : List ℕ) → SoundTo job n t → find (sys job) (nodeIs (constraintCount job) node) (heldIn job n t) 0 ≡ slotOption (findIn node (take n (slots t)) 0)
+    pub find-held : (n : ℕ) (t : List ℕ) → SoundTo job n t
+        → find (sys job) (nodeFor job node) (heldIn job n t) 0 ≡ slotOption (findIn node (take n (slots t)) 0)
     find-held n t h = rw (held-map job n t) (find-all (take n (slots t)) h 0)
 
-  -- ---- the open slot of the least key
+  -- ---- the open slot of the least rank
 
-  least-all : (ss : List Slot) (k : ℕ) → leastOpen (sys job) (map (heldIs job) ss) k ≡ bestOption (leastIn ss k)
+  least-all : (ss : List Slot) → All (Sound job) ss → (k : ℕ) → leastOpen (sys job) (map (heldIs job) ss) k ≡ bestOption (leastIn ss k)
   unfolding leastOpen leastIn heldIs
-  least-all [] k = refl
-  least-all (s ∷ ss) k = go (s .taken) refl (leastIn ss (suc k)) refl (least-all ss (suc k))
+  least-all [] h k = refl
+  least-all (s ∷ ss) h k = go (s .taken) refl (leastIn ss (suc k)) refl (least-all ss (h .1) (suc k))
     where
+      rank : rankAt s ≡ rankIn (sys job) (heldIs job s)
+      rank = sym (held-rank s (h .0))
+
       go : (a : Bool) → s .taken ≡ a → (b : Best) → leastIn ss (suc k) ≡ b → leastOpen (sys job) (map (heldIs job) ss) (suc k) ≡ bestOption (leastIn ss (suc k))
           → leastOpen (sys job) (map (heldIs job) (s ∷ ss)) k ≡ bestOption (leastIn (s ∷ ss) k)
       go true e NoOpen f ih = rw (e, ih, f)
       go true e (Open i c n) f ih = rw (e, ih, f)
-      go false e NoOpen f ih = rw (e, ih, f)
-      go false e (Open i c n) f ih = rw (e, ih, f) (front (less (keyOf c n) (keyOf (s .cost) (s .steps))))
+      go false e NoOpen f ih = rw (e, ih, f) (ap (λ (z : Key). some (record { slot = k; rank = z })) (sym rank))
+      go false e (Open i c n) f ih = rw (e, ih, f) (ap (λ (z : Key). first (less (keyOf c n) z) z) (sym rank) ∙ same (less (keyOf c n) (rankAt s)))
         where
-          front : (x : Bool) → elim x as (λ y. Option search.Open) [ false ↦ some (record { slot = k; key = keyOf (s .cost) (s .steps) }) | true ↦ some (record { slot = i; key = keyOf c n }) ]
-              ≡ bestOption (choose x (Open i c n) (Open k (s .cost) (s .steps)))
-          front true = refl
-          front false = refl
+          first : Bool → Key → Option search.Open
+          first b z = elim b as (λ y. Option search.Open) [
+            | false ↦ some (record { slot = k; rank = z })
+            | true ↦ some (record { slot = i; rank = keyOf c n })
+          ]
 
-  -- The open slot of the least key, among n slots.
-  pub least-held : (n : ℕ) (t : List ℕ) → leastOpen (sys job) (heldIn job n t) 0 ≡ bestOption (leastIn (take n (slots t)) 0)
-  least-held n t = rw (held-map job n t) (least-all (take n (slots t)) 0)
+          same : (b : Bool) → first b (rankAt s) ≡ bestOption (choose b (Open i c n) (Open k (s .cost + s .estimate) (s .steps)))
+          same true = refl
+          same false = refl
+
+  -- The open slot of the least rank, among n sound slots.
+  pub least-held : (n : ℕ) (t : List ℕ) → SoundTo job n t → leastOpen (sys job) (heldIn job n t) 0 ≡ bestOption (leastIn (take n (slots t)) 0)
+  least-held n t h = rw (held-map job n t) (least-all (take n (slots t)) h 0)
 
   -- ---- where only the slot's number is told
 
-  module _ (n : ℕ) (t : List ℕ) {f : Found} (e : f ≡ slotOfBest (leastIn (take n (slots t)) 0)) where
-    -- It is open, and its key is its own.
-    pub least-at : {i : ℕ} → f ≡ At i → leastOpen (sys job) (heldIn job n t) 0 ≡ some (record { slot = i; key = keyOf (slotAt t i .cost) (slotAt t i .steps) })
+  module _ (n : ℕ) (t : List ℕ) (sound : SoundTo job n t) (room : n * slotBytes ≤ length t) {f : Found}
+      (e : f ≡ slotOfBest (leastIn (take n (slots t)) 0)) where
+    -- The slot that is found is the open one of the least rank, which is its own rank.
+    pub least-at : {i : ℕ} → f ≡ At i → leastOpen (sys job) (heldIn job n t) 0 ≡ some (record { slot = i; rank = rankAt (slotAt t i) })
     unfolding slotOfBest
     least-at {i} q = go (leastIn (take n (slots t)) 0) refl
       where
-        go : (b : Best) → leastIn (take n (slots t)) 0 ≡ b → leastOpen (sys job) (heldIn job n t) 0 ≡ some (record { slot = i; key = keyOf (slotAt t i .cost) (slotAt t i .steps) })
+        go : (b : Best) → leastIn (take n (slots t)) 0 ≡ b → leastOpen (sys job) (heldIn job n t) 0 ≡ some (record { slot = i; rank = rankAt (slotAt t i) })
         go (Open j c k) d =
             let w : At j ≡ At i = sym (ap slotOfBest d) ∙ sym e ∙ q in
             let p : j ≡ i = cc in
-            let l : leastOpen (sys job) (heldIn job n t) 0 ≡ some (record { slot = j; key = keyOf c k }) = least-held n t ∙ ap bestOption d in
+            let l : leastOpen (sys job) (heldIn job n t) 0 ≡ some (record { slot = j; rank = keyOf c k }) = least-held n t sound ∙ ap bestOption d in
             let m = least-some (sys job) (heldIn job n t) l in
-            let y : keyOf c k ≡ keyOf (slotAt t j .cost) (slotAt t j .steps) = m .3 ∙ ap (λ (r : Held (sys job)). r .key) (held-is job n t j (m .1) .1) ∙ held-key (slotAt t j) in
-            rw p at (l ∙ ap (λ (z : Key). some (record { slot = j; key = z })) y)
+            let h = held-is job n t j (m .1) in
+            let y : keyOf c k ≡ rankAt (slotAt t j) = m .3 ∙ ap (rankIn (sys job)) (h .1)
+            ∙ held-rank (slotAt t j) (sound-at job n t sound j (h .0) room) in
+            rw p at (l ∙ ap (λ (z : Key). some (record { slot = j; rank = z })) y)
         go NoOpen d = let w : Nothing ≡ At i = sym (ap slotOfBest d) ∙ sym e ∙ q in let z : _≡_ {A = ℕ} 0 1 = cc in absurd (omega arith)
 
     -- Where there is none, no slot is open.
@@ -108,4 +123,4 @@ module _ (job : List ℕ) where
       where
         go : (b : Best) → leastIn (take n (slots t)) 0 ≡ b → leastOpen (sys job) (heldIn job n t) 0 ≡ none
         go (Open j c k) d = let w : At j ≡ Nothing = sym (ap slotOfBest d) ∙ sym e ∙ q in let z : _≡_ {A = ℕ} 0 1 = cc in absurd (omega arith)
-        go NoOpen d = least-held n t ∙ ap bestOption d
+        go NoOpen d = least-held n t sound ∙ ap bestOption d

@@ -11,6 +11,8 @@ use borrow.Author.Tests.{eqb-true, eq-eqb, ne-eqb}
 use Rattle.model.specs.exploration.System.{System}
 use Rattle.model.specs.exploration.Explore.{Entry}
 use Rattle.model.specs.search.Node.{Node}
+use Rattle.model.specs.search.Query.{Query}
+use Rattle.model.specs.calls.Search.{slotBytes}
 use Rattle.model.proofs.exploration.Each.{All, all-map}
 use Rattle.model.proofs.exploration.Counting.{Apart, apart-length}
 use Rattle.dijkstra.specs.Records.{Held, Table, take-it}
@@ -100,7 +102,8 @@ module _ (S : System) where
 
 -- ---- the same of slots
 
-module _ (job : List ℕ) {m0 : Node} (n : ℕ) (t : List ℕ) {P : Entry (sys job) → Type 0} (inv : Inv (sys job) m0 (heldIn job n t) P) (room : n * 160 ≤ length t) where
+module _ (job : Query) {m0 : Node} (n : ℕ) (t : List ℕ) {P : Entry (sys job) → Type 0} (inv : Inv (sys job) m0 (heldIn job n t) P)
+    (room : n * slotBytes ≤ length t) where
   -- Slot i is taken, and another is open or free: one step more has 16 bits.
   pub next-fits : {places : ℕ} (i : ℕ) → i < n → slotAt t i .taken ≡ true → ((j : ℕ) × (j < n) × (slotAt t j .taken ≡ false)) ⊎ (n < places) → n ≤ places → places ≤ 65536
       → slotAt t i .steps + 1 < 65536

@@ -5,6 +5,8 @@ use Prim.Native.Nat.{ℕ, zero, suc, _+_, _*_, _≤_, _<_}
 use native.Mathlib.Numerals.{add-one}
 use lib.ListN.{length, set, take}
 use lib.Seq.{take-set-lt, take-suc-set}
+use Rattle.model.specs.search.Query.{Query}
+use Rattle.model.specs.calls.Search.{slotBytes}
 use Rattle.model.proofs.exploration.Each.{All, all-append}
 use Rattle.dijkstra.specs.Records.{take-it, mark}
 use Rattle.dijkstra.proofs.Taking.{mark-is}
@@ -39,16 +41,16 @@ module _ (t u : List ℕ) (j : ℕ) (s : Slot) (e : slots u ≡ set (slots t) j 
   first-set n l = rw e (take-set-lt n (slots t) j s l)
 
   -- Stored after the first j slots, it is one more.
-  pub first-more : j * 160 + 160 ≤ length t → take (j + 1) (slots u) ≡ take j (slots t) ++ (s ∷ [])
+  pub first-more : j * slotBytes + slotBytes ≤ length t → take (j + 1) (slots u) ≡ take j (slots t) ++ (s ∷ [])
   first-more h = rw (e, add-one) (take-suc-set (slots t) j s (slot-inside t j h))
 
-module _ (job t u : List ℕ) (j : ℕ) (s : Slot) (e : slots u ≡ set (slots t) j s) where
+module _ (job : Query) (t u : List ℕ) (j : ℕ) (s : Slot) (e : slots u ≡ set (slots t) j s) where
   -- Stored in place of another slot, it changes that slot's record.
   pub store-held : (n : ℕ) → j < n → heldIn job n u ≡ set (heldIn job n t) j (heldIs job s)
   store-held n l = rw (held-map job n u, held-map job n t, first-set t u j s e n l) (map-set (heldIs job) (take n (slots t)) j s)
 
   -- Stored after the last slot, it is one record more.
-  pub append-held : j * 160 + 160 ≤ length t → heldIn job (j + 1) u ≡ heldIn job j t ++ (heldIs job s ∷ [])
+  pub append-held : j * slotBytes + slotBytes ≤ length t → heldIn job (j + 1) u ≡ heldIn job j t ++ (heldIs job s ∷ [])
   append-held h = rw (held-map job (j + 1) u, held-map job j t, first-more t u j s e h) (map-snoc (heldIs job) (take j (slots t)) s)
 
   -- All slots stay sound if a sound one is stored among them.
@@ -56,21 +58,21 @@ module _ (job t u : List ℕ) (j : ℕ) (s : Slot) (e : slots u ≡ set (slots t
   store-sound n l p h = rw (first-set t u j s e n l) (all-set (Sound job) (take n (slots t)) j s p h)
 
   -- All slots stay sound if a sound one is stored after them.
-  pub append-sound : j * 160 + 160 ≤ length t → Sound job s → SoundTo job j t → SoundTo job (j + 1) u
+  pub append-sound : j * slotBytes + slotBytes ≤ length t → Sound job s → SoundTo job j t → SoundTo job (j + 1) u
   append-sound h p k = rw (first-more t u j s e h) (all-append (Sound job) (take j (slots t)) (s ∷ []) k (p, tt))
 
 -- ---- slot i marked as taken
 
-module _ (job : List ℕ) where
+module _ (job : Query) where
   taken-held : (s : Slot) → heldIs job (takenSlot s) ≡ take-it (sys job) (heldIs job s)
   unfolding heldIs takenSlot take-it
   taken-held s = refl
 
   taken-sound : (s : Slot) → Sound job s → Sound job (takenSlot s)
   unfolding takenSlot
-  taken-sound s h = record { clean = h .clean; cleanHints = h .cleanHints; marked = h .marked; summed = h .summed }
+  taken-sound s h = record { clean = h .clean; cleanHints = h .cleanHints; marked = h .marked; estimated = h .estimated; summed = h .summed }
 
-module _ (job t u : List ℕ) (i : ℕ) (e : slots u ≡ set (slots t) i (takenSlot (slotAt t i))) (n : ℕ) (l : i < n) (h : n * 160 ≤ length t) where
+module _ (job : Query) (t u : List ℕ) (i : ℕ) (e : slots u ≡ set (slots t) i (takenSlot (slotAt t i))) (n : ℕ) (l : i < n) (h : n * slotBytes ≤ length t) where
   -- The record of a slot that was marked is taken.
   pub mark-held : heldIn job n u ≡ mark (sys job) (heldIn job n t) i
   mark-held =

@@ -1,12 +1,14 @@
--- The slots of a table as the records of a search, for a job's bytes.
+-- The slots of a table as the records of a search, for what is asked.
 use mathlib.Core.Path.{_≡_}
 use Prim.Native.Nat.{ℕ, _*_, _≤_}
 use mathlib.Core.Option.{Option, none, some}
 use mathlib.Core.List.{List, map}
 use lib.ListN.{take}
 use Rattle.model.specs.exploration.System.{System}
-use Rattle.model.specs.job.Layout.{constraintCount, hintCount, jobOf}
+use Rattle.model.specs.job.Layout.{constraintCount, hintCount}
+use Rattle.model.specs.search.Node.{Node}
 use Rattle.model.specs.search.JobSystem.{systemOf, isGoal}
+use Rattle.model.specs.search.Query.{Query, jobFor}
 use Rattle.model.proofs.exploration.Each.{All}
 use Rattle.dijkstra.specs.Records.{Held, Table}
 use Rattle.table.specs.declared.Slot.{Slot}
@@ -15,18 +17,22 @@ use Rattle.table.specs.declared.Found.the-variants.{At, Nothing}
 use Rattle.table.specs.Slots.{slots}
 use Rattle.nodes.specs.Meaning.{nodeIs, Clean, hintsIs, CleanHints}
 
-module _ (job : List ℕ) where
+module _ (job : Query) where
   abbrev pub sys : System
-  sys = systemOf (jobOf job)
+  sys = systemOf (jobFor job)
+
+  -- the node that an array stands for
+  abbrev pub nodeFor : List ℕ → Node
+  nodeFor a = nodeIs (constraintCount (job .bytes)) a
 
   -- the record that a slot stands for
   unfoldable pub heldIs : Slot → Held sys
   unfolding nodeIs hintsIs
   heldIs s =
       record {
-        node = nodeIs (constraintCount job) (s .node);
+        node = nodeFor (s .node);
         key = record { cost = s .cost; steps = s .steps };
-        hints = hintsIs (hintCount job) (s .hints);
+        hints = hintsIs (hintCount (job .bytes)) (s .hints);
         parent = s .parent;
         action = s .action;
         taken = s .taken;
@@ -37,11 +43,13 @@ module _ (job : List ℕ) where
   unfolding heldIs slots
   heldIn n table = map heldIs (take n (slots table))
 
-  -- What holds of every slot in use: nothing after its last residuals, its goal mark is right, and costs are sums of 16-bit numbers.
+  -- What holds of every slot in use: nothing after its last residuals, its goal mark and its estimate are its node's, and costs are sums of
+  -- 16-bit numbers.
   pub record Sound (s : Slot) : Type 0 where
-    pub clean : Clean (constraintCount job) (s .node)
-    pub cleanHints : CleanHints (hintCount job) (s .hints)
-    pub marked : s .goal ≡ isGoal (jobOf job) (nodeIs (constraintCount job) (s .node))
+    pub clean : Clean (constraintCount (job .bytes)) (s .node)
+    pub cleanHints : CleanHints (hintCount (job .bytes)) (s .hints)
+    pub marked : s .goal ≡ isGoal (jobFor job) (nodeFor (s .node))
+    pub estimated : s .estimate ≡ sys .estimate (nodeFor (s .node))
     pub summed : s .cost ≤ 65535 * s .steps
 
   abbrev pub SoundTo : ℕ → List ℕ → Type 0

@@ -7,7 +7,7 @@ use lib.ListN.{length, take, drop, length-drop}
 use lib.Seq.{length-take-le}
 use Rattle.model.specs.declared.Verdict.the-variants.{Fine}
 use Rattle.model.specs.logic.Formula.{Formula}
-use Rattle.model.specs.logic.Parts.{partsOf}
+use Rattle.model.specs.logic.Parts.{mostParts, partsOf}
 use Rattle.model.specs.logic.Reading.{formula, parsed, section}
 use Rattle.model.specs.job.Job.{actionOf, noAction}
 use Rattle.model.specs.job.Layout.{factCount, actionCount, constraintCount, hintCount, pairCount, pairOffset, pairLength, sectionBytes, actionAt, formulaIn, formulaAt, jobOf}
@@ -64,14 +64,14 @@ module _ (bytes : List ℕ) (h : jobVerdict bytes ≡ Fine) where
       size : length (sectionBytes bytes (1 + i)) ≡ pairLength bytes (1 + i)
       size = section-size bytes (1 + i) (accepted-laid .section (1 + i) m)
 
-      passed : ((n : ℕ) × (formulaIn bytes (1 + i) ≡ formula (formulaAt bytes (1 + i)) n)) × (length (partsOf (formulaAt bytes (1 + i))) ≤ 6)
+      passed : ((n : ℕ) × (formulaIn bytes (1 + i) ≡ formula (formulaAt bytes (1 + i)) n)) × (length (partsOf (formulaAt bytes (1 + i))) ≤ mostParts)
       passed = section-fine bytes (pairOffset bytes (1 + i)) (1 + i) (each-formula bytes h i l)
 
       found : (n : ℕ) × (formulaIn bytes (1 + i) ≡ formula (formulaAt bytes (1 + i)) n)
       found = passed .0
 
       read : (parsed 64 64 (sectionBytes bytes (1 + i)) 0 ≡ formula (formulaAt bytes (1 + i)) (found .0)) × (found .0 ≡ length (sectionBytes bytes (1 + i)))
-      read = section-read bytes (1 + i) (found .0) (formulaAt bytes (1 + i)) (accepted-laid .few-facts) (accepted-laid .few-actions) (found .1)
+      read = section-read bytes (1 + i) (found .0) (formulaAt bytes (1 + i)) (accepted-laid .head .few-facts) (accepted-laid .head .few-actions) (found .1)
 
       exact : found .0 ≡ pairLength bytes (1 + i)
       exact = read .1 ∙ size

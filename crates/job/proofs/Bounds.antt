@@ -2,6 +2,7 @@
 use mathlib.Core.Path.{_≡_}
 use Prim.Native.Nat.{ℕ, zero, suc, _+_, _-_, _*_, _≤_, _<_}
 use native.Mathlib.Omega.{arith}
+use native.Mathlib.Nat.{mul-suc, mul-le-mul-left}
 use mathlib.Core.Bool.{true}
 use mathlib.Core.List.{List}
 use lib.Dec.{leb, eqb}
@@ -9,12 +10,13 @@ use lib.ListN.{length}
 use borrow.Author.Tests.{leb-true, eqb-true}
 use Rattle.model.specs.declared.Verdict.the-variants.{Fine}
 use Rattle.model.specs.Verdict.{inTurn}
-use Rattle.model.specs.job.Layout.{actionCount, pairCount, pairOffset, pairLength, actionOffset}
+use Rattle.model.specs.job.Layout.{setBytes, setCount, costBytes, taskHead, actionBytes, actionCount, pairCount, pairOffset, pairLength}
+use Rattle.model.specs.job.Layout.{taskBytes, actionOffset, setOffset, costOffset}
 use Rattle.model.specs.job.Decoding.{headVerdict, sectionStart, rightLength, pairVerdict, pairsVerdict}
 use Rattle.model.proofs.Tests.{and-both}
-use Rattle.model.proofs.job.Accepted.{four-true, FineHead, head-fine}
+use Rattle.model.proofs.job.Accepted.{four-true, head-fine}
 use Rattle.model.proofs.job.VerdictLaws.{orElse-fine, unless-fine, inTurn-fine}
-use Rattle.job.specs.Laid.{Laid}
+use Rattle.job.specs.Laid.{HeadThere, ActionThere, Laid}
 
 module _ (bytes : List ℕ) where
   -- The tests of a pair are true.
@@ -40,49 +42,76 @@ module _ (bytes : List ℕ) where
   pub pairs-whole : inTurn (pairCount bytes) (pairVerdict bytes) ≡ Fine → 4 + 4 * pairCount bytes ≤ length bytes
   pairs-whole h = omega (arith, some-pairs, pair-whole (pairCount bytes) h (pairCount bytes - 1) (omega (arith, some-pairs)))
 
-  formula-length : (i n : ℕ) → 1 ≤ i → rightLength bytes i n ≡ true → (1 ≤ n) × (n ≤ 128)
+  formula-length : (i n : ℕ) → 1 ≤ i → rightLength bytes i n ≡ true → n ≤ 128
   unfolding rightLength
   formula-length zero n l h = absurd (omega arith)
-  formula-length (suc i) n l h = let p = (and-both (leb 1 n) (leb n 128)) .0 h in (leb-true 1 n (p .0), leb-true n 128 (p .1))
+  formula-length (suc i) n l h = leb-true n 128 ((and-both (leb 1 n) (leb n 128)) .0 h .1)
 
-  task-length : (n : ℕ) → rightLength bytes 0 n ≡ true → n ≡ 16 + 26 * actionCount bytes
+  task-length : (n : ℕ) → rightLength bytes 0 n ≡ true → n ≡ taskBytes bytes
   unfolding rightLength
-  task-length n h = eqb-true n (16 + 26 * actionCount bytes) h
+  task-length n h = eqb-true n (taskBytes bytes) h
 
   -- If the head and the pairs are fine, all is there.
   pub laid : headVerdict bytes ≡ Fine → pairsVerdict bytes ≡ Fine → Laid bytes
   unfolding pairsVerdict
   laid h p = record {
-    head = counts .whole;
-    some-facts = counts .some-facts;
-    few-facts = counts .few-facts;
-    few-actions = counts .few-actions;
-    few-constraints = counts .few-constraints;
-    few-hints = counts .few-hints;
+    head = head-fine bytes h;
     pair = pair-whole (pairCount bytes) each;
     section = λ i l. leb-true _ (length bytes) (tests i l .3);
     task = task-length _ (tests 0 some-pairs .2);
-    some-bytes = λ i m l. formula-length i _ m (tests i l .2) .0;
-    few-bytes = λ i m l. formula-length i _ m (tests i l .2) .1;
+    few-bytes = λ i m l. formula-length i _ m (tests i l .2);
   }
     where
-      counts : FineHead bytes
-      counts = head-fine bytes h
-
       each : inTurn (pairCount bytes) (pairVerdict bytes) ≡ Fine
       each = (orElse-fine (inTurn (pairCount bytes) (pairVerdict bytes)) _) .0 p .0
 
       tests : (i : ℕ) → i < pairCount bytes → PairTrue i
       tests = pair-tests (pairCount bytes) each
 
--- Where the task's numbers lie.
+-- The start and the goal fit before the actions; the sets of an action, and its cost after them, fit into its bytes.
+head-fits : setBytes + setBytes ≤ taskHead
+head-fits = omega arith
+
+cost-fits : setBytes * setCount + costBytes ≤ actionBytes
+cost-fits = omega arith
+
+-- One of n pieces of s bytes ends where the last one does, or before it.
+piece-within : (s i n : ℕ) → i < n → s * i + s ≤ s * n
+piece-within s i n h = rw (← mul-suc s i) (mul-le-mul-left s h)
+
+-- Where the bytes of the task are there, each of its numbers is.
+module _ {bytes : List ℕ} (h : HeadThere bytes) where
+  pub start-inside : pairOffset bytes 0 + setBytes ≤ length bytes
+  start-inside = omega (arith, h .whole, head-fits)
+
+  pub goal-inside : pairOffset bytes 0 + setBytes + setBytes ≤ length bytes
+  goal-inside = omega (arith, h .whole, head-fits)
+
+module _ {bytes : List ℕ} {i : ℕ} (h : ActionThere bytes i) where
+  pub set-inside : (k : ℕ) → k < setCount → setOffset bytes i k + setBytes ≤ length bytes
+  unfolding setOffset
+  set-inside k l = omega (arith, h .whole, cost-fits)
+
+  pub set-starts : (k : ℕ) → k ≤ setCount → setOffset bytes i k ≤ length bytes
+  unfolding setOffset
+  set-starts k l = omega (arith, h .whole, cost-fits)
+
+  pub cost-inside : costOffset bytes i + costBytes ≤ length bytes
+  unfolding costOffset
+  cost-inside = omega (arith, h .whole, cost-fits)
+
+-- Where the head and the pairs are fine, the bytes of the task are there.
 module _ {bytes : List ℕ} (l : Laid bytes) where
   pub task-pair : 8 ≤ length bytes
   task-pair = l .pair 0 (some-pairs bytes)
 
-  pub task-inside : pairOffset bytes 0 + 16 ≤ length bytes
+  task-inside : pairOffset bytes 0 + taskBytes bytes ≤ length bytes
   task-inside = omega (arith, l .section 0 (some-pairs bytes), l .task)
 
-  pub action-inside : (i : ℕ) → i < actionCount bytes → actionOffset bytes i + 26 ≤ length bytes
-  unfolding actionOffset
-  action-inside i h = omega (arith, l .section 0 (some-pairs bytes), l .task)
+  pub head-there : HeadThere bytes
+  unfolding taskBytes
+  head-there = record { pair = task-pair; whole = omega (arith, task-inside) }
+
+  pub action-there : (i : ℕ) → i < actionCount bytes → ActionThere bytes i
+  unfolding taskBytes actionOffset
+  action-there i h = record { pair = task-pair; whole = omega (arith, task-inside, piece-within actionBytes i (actionCount bytes) h) }

@@ -6,7 +6,7 @@ use mathlib.Core.Bool.{false}
 use mathlib.Core.List.{List}
 use lib.Dec.{leb, eqb}
 use borrow.Author.Tests.{lt-leb, le-leb}
-use Rattle.model.specs.job.Layout.{actionCount, pairCount, pairOffset, pairLength}
+use Rattle.model.specs.job.Layout.{taskBytes, pairCount, pairOffset, pairLength}
 use Rattle.model.specs.job.Decoding.{sectionStart, rightLength}
 
 module _ (bytes : List ℕ) where
@@ -22,7 +22,7 @@ module _ (bytes : List ℕ) where
   start-next (suc i) z a b = let e : suc i - 1 ≡ i = omega arith in rw (a, b, e)
 
   -- The task section's length.
-  pub length-task : (i n : ℕ) {a : ℕ} → i ≡ 0 → a ≡ actionCount bytes → eqb n (16 + 26 * a) ≡ rightLength bytes i n
+  pub length-task : (i n : ℕ) {t : ℕ} → i ≡ 0 → t ≡ taskBytes bytes → eqb n t ≡ rightLength bytes i n
   unfolding rightLength
   length-task i n e h = rw (e, h)
 

@@ -2,7 +2,22 @@
 ghost use mathlib.Core.Path.{_≡_};
 ghost use Prim.Native.Nat.{_+_, _*_, _≤_, _<_};
 ghost use lib.ListN.{length};
-ghost use Rattle.model.specs.job.Layout.{factCount, actionCount, constraintCount, hintCount, pairCount, pairOffset, pairLength, actionOffset, actionAt, jobOf};
+ghost use Rattle.model.specs.Bits.{numberAt};
+ghost use Rattle.model.specs.job.Layout.{setBytes, setCount, factCount, actionCount, constraintCount, hintCount, pairCount, pairOffset, pairLength};
+ghost use Rattle.model.specs.job.Layout.{taskBytes, actionOffset, setOffset, actionAt, jobOf};
+ghost use Rattle.job.specs.Laid.{HeadThere, ActionThere};
+
+// A set of facts has 64 bits.
+pub const SET: usize = 8;
+
+// An action has this many sets: the needed, the added and the deleted facts.
+pub const SETS: usize = 3;
+
+// The start and the goal stand before the actions.
+const TASK_HEAD: usize = 16;
+
+// An action is its sets and its cost.
+const ACTION: usize = 26;
 
 pub fn fact_count(bytes: &[u8]) -> u8
     requires { ⌜ 4 ≤ length (now bytes) ⌝ }
@@ -68,9 +83,17 @@ pub fn section_length(bytes: &[u8], i: usize) -> usize
     words::get16(bytes, 6 + 4 * i) as usize
 }
 
+// How many bytes the task section must have.
+pub fn task_bytes(bytes: &[u8]) -> usize
+    requires { ⌜ 4 ≤ length (now bytes) ⌝ }
+    ensures { λ r. ⌜ r ≡ taskBytes (now (bytes .entry)) ⌝ }
+{
+    TASK_HEAD + ACTION * wide(action_count(bytes))
+}
+
 // The facts that are true at the start.
 pub fn start(bytes: &[u8]) -> u64
-    requires { ⌜ (8 ≤ length (now bytes)) × (pairOffset (now bytes) 0 + 16 ≤ length (now bytes)) ⌝ }
+    requires { ⌜ HeadThere (now bytes) ⌝ }
     ensures { λ r. ⌜ r ≡ jobOf (now (bytes .entry)) .start ⌝ }
 {
     words::get64(bytes, section_offset(bytes, 0))
@@ -78,47 +101,63 @@ pub fn start(bytes: &[u8]) -> u64
 
 // The facts that are to be true at the end.
 pub fn goal(bytes: &[u8]) -> u64
-    requires { ⌜ (8 ≤ length (now bytes)) × (pairOffset (now bytes) 0 + 16 ≤ length (now bytes)) ⌝ }
+    requires { ⌜ HeadThere (now bytes) ⌝ }
     ensures { λ r. ⌜ r ≡ jobOf (now (bytes .entry)) .goal ⌝ }
 {
-    words::get64(bytes, section_offset(bytes, 0) + 8)
+    words::get64(bytes, section_offset(bytes, 0) + SET)
 }
 
 // Where action i begins.
-pub fn action_offset(bytes: &[u8], i: usize) -> usize
-    requires { ⌜ (8 ≤ length (now bytes)) × (actionOffset (now bytes) i + 26 ≤ length (now bytes)) ⌝ }
+fn action_offset(bytes: &[u8], i: usize) -> usize
+    requires { ⌜ ActionThere (now bytes) i ⌝ }
     ensures { λ r. ⌜ r ≡ actionOffset (now (bytes .entry)) i ⌝ }
 {
-    section_offset(bytes, 0) + 16 + 26 * i
+    section_offset(bytes, 0) + TASK_HEAD + ACTION * i
+}
+
+// Where set k of action i stands; after the last one stands the cost.
+pub fn set_offset(bytes: &[u8], i: usize, k: usize) -> usize
+    requires { ⌜ ActionThere (now bytes) i × (k ≤ setCount) ⌝ }
+    ensures { λ r. ⌜ r ≡ setOffset (now (bytes .entry)) i k ⌝ }
+{
+    action_offset(bytes, i) + SET * k
+}
+
+// Set k of action i.
+fn action_set(bytes: &[u8], i: usize, k: usize) -> u64
+    requires { ⌜ ActionThere (now bytes) i × (k < setCount) ⌝ }
+    ensures { λ r. ⌜ r ≡ numberAt setBytes (now (bytes .entry)) (setOffset (now (bytes .entry)) i k) ⌝ }
+{
+    words::get64(bytes, set_offset(bytes, i, k))
 }
 
 // The facts that action i needs.
 pub fn action_pre(bytes: &[u8], i: usize) -> u64
-    requires { ⌜ (8 ≤ length (now bytes)) × (actionOffset (now bytes) i + 26 ≤ length (now bytes)) ⌝ }
+    requires { ⌜ ActionThere (now bytes) i ⌝ }
     ensures { λ r. ⌜ r ≡ actionAt (now (bytes .entry)) i .pre ⌝ }
 {
-    words::get64(bytes, action_offset(bytes, i))
+    action_set(bytes, i, 0)
 }
 
 // The facts that action i adds.
 pub fn action_add(bytes: &[u8], i: usize) -> u64
-    requires { ⌜ (8 ≤ length (now bytes)) × (actionOffset (now bytes) i + 26 ≤ length (now bytes)) ⌝ }
+    requires { ⌜ ActionThere (now bytes) i ⌝ }
     ensures { λ r. ⌜ r ≡ actionAt (now (bytes .entry)) i .add ⌝ }
 {
-    words::get64(bytes, action_offset(bytes, i) + 8)
+    action_set(bytes, i, 1)
 }
 
 // The facts that action i deletes.
 pub fn action_del(bytes: &[u8], i: usize) -> u64
-    requires { ⌜ (8 ≤ length (now bytes)) × (actionOffset (now bytes) i + 26 ≤ length (now bytes)) ⌝ }
+    requires { ⌜ ActionThere (now bytes) i ⌝ }
     ensures { λ r. ⌜ r ≡ actionAt (now (bytes .entry)) i .del ⌝ }
 {
-    words::get64(bytes, action_offset(bytes, i) + 16)
+    action_set(bytes, i, 2)
 }
 
 pub fn action_cost(bytes: &[u8], i: usize) -> u64
-    requires { ⌜ (8 ≤ length (now bytes)) × (actionOffset (now bytes) i + 26 ≤ length (now bytes)) ⌝ }
+    requires { ⌜ ActionThere (now bytes) i ⌝ }
     ensures { λ r. ⌜ (r ≡ actionAt (now (bytes .entry)) i .cost) × (r < 65536) ⌝ }
 {
-    words::get16(bytes, action_offset(bytes, i) + 24)
+    words::get16(bytes, set_offset(bytes, i, SETS))
 }

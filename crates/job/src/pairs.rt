@@ -27,7 +27,7 @@ fn right_length(bytes: &[u8], i: usize, n: usize) -> bool
     ensures { λ r. ⌜ r ≡ rightLength (now (bytes .entry)) i n ⌝ }
 {
     if i == 0 {
-        return n == 16 + 26 * access::wide(access::action_count(bytes));
+        return n == access::task_bytes(bytes);
     }
     if n < 1 {
         return false;

@@ -7,7 +7,7 @@ ghost use Prim.Native.Nat.{_+_, _^_, _≤_, _<_};
 ghost use lib.Dec.{ltb};
 ghost use lib.ListN.{length};
 ghost use Rattle.model.specs.Verdict.{inTurn};
-ghost use Rattle.model.specs.job.Layout.{actionCount};
+ghost use Rattle.model.specs.job.Layout.{setBytes, actionCount};
 ghost use Rattle.model.specs.job.Decoding.{setVerdict, actionVerdict, taskVerdict};
 ghost use Rattle.job.specs.Laid.{Laid};
 
@@ -24,28 +24,27 @@ fn fits_in(x: u64, n: u8) -> bool
 
 // That the set at an offset has no fact that the job does not have.
 fn check_set(bytes: &[u8], offset: usize) -> Verdict
-    requires { ⌜ Laid (now bytes) × (offset + 8 ≤ length (now bytes)) ⌝ }
+    requires { ⌜ Laid (now bytes) × (offset + setBytes ≤ length (now bytes)) ⌝ }
     ensures { λ r. ⌜ r ≡ setVerdict (now (bytes .entry)) offset ⌝ }
 {
     let set = words::get64(bytes, offset);
     checks::unless(fits_in(set, access::fact_count(bytes)), 3, offset)
 }
 
-// The three sets of action i.
+// The sets of action i in turn.
 fn check_action(bytes: &[u8], i: usize) -> Verdict
     requires { ⌜ Laid (now bytes) × (i < actionCount (now bytes)) ⌝ }
     ensures { λ r. ⌜ r ≡ actionVerdict (now (bytes .entry)) i ⌝ }
 {
-    let offset = access::action_offset(bytes, i);
-    let pre = check_set(bytes, offset);
-    if checks::refuses(pre) {
-        return pre;
+    let mut k = 0;
+    while k < access::SETS {
+        let verdict = check_set(bytes, access::set_offset(bytes, i, k));
+        if checks::refuses(verdict) {
+            return verdict;
+        }
+        k += 1;
     }
-    let add = check_set(bytes, offset + 8);
-    if checks::refuses(add) {
-        return add;
-    }
-    check_set(bytes, offset + 16)
+    Verdict::Fine
 }
 
 // The actions in turn.
@@ -75,7 +74,7 @@ pub fn check_task(bytes: &[u8]) -> Verdict
     if checks::refuses(start) {
         return start;
     }
-    let goal = check_set(bytes, offset + 8);
+    let goal = check_set(bytes, offset + access::SET);
     if checks::refuses(goal) {
         return goal;
     }

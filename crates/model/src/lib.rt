@@ -1,4 +1,10 @@
-// The types that the definitions in specs/ and the code of all crates share.
+// The types and the sizes that the definitions in specs/ and the code of all crates share.
+
+// A formula has at most this many carried parts.
+pub const MOST_PARTS: usize = 6;
+
+// The words of a node: a state and the residuals of eight constraints.
+pub const NODE: usize = 9;
 
 // A formula with no operand and no number.
 pub enum Constant {

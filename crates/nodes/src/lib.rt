@@ -1,6 +1,7 @@
 // The nodes of an accepted job as values, for the search. A node is nine numbers: the state, then the residual of each constraint, and 0 after the
 // last. The residuals of the hints, which a path carries beside its node, are eight numbers.
 use job::access;
+use model::NODE;
 use task::Action;
 use task::State;
 ghost use mathlib.Core.Path.{_≡_};
@@ -20,7 +21,7 @@ ghost use Rattle.nodes.specs.Meaning.{nodeIs, hintsIs, actionsFrom, choi
 // What an action leads to. Where it leads nowhere, alive is false and the node, clean as any, means nothing.
 pub struct Reached {
     pub alive: bool,
-    pub node: [u64; 9],
+    pub node: [u64; NODE],
 }
 
 pub fn action_of(job: &[u8], i: u8) -> Action
@@ -71,7 +72,7 @@ fn eight_from(job: &[u8], first: u8) -> [Action; 8]
 
 // The actions that are applicable at a node: bit i is action i, and bits of no action of the job mean nothing. The last eight are looked up first, so
 // that each next eight are the lowest bits.
-pub fn choices(job: &[u8], node: [u64; 9]) -> u64
+pub fn choices(job: &[u8], node: [u64; NODE]) -> u64
     requires { ⌜ jobVerdict (now job) ≡ Fine ⌝ }
     ensures { λ r. ⌜ r ≡ choicesIn (jobOf (now (job .entry))) (nodeIs (constraintCount (now (job .entry))) node .state) ⌝ }
 {
@@ -93,7 +94,7 @@ pub fn cost_of(job: &[u8], i: u8) -> u64
 }
 
 // A state in front of residuals.
-fn node_of(facts: u64, rs: [u64; 8]) -> [u64; 9]
+fn node_of(facts: u64, rs: [u64; 8]) -> [u64; NODE]
     ensures { λ r. ⌜ r ≡ facts ∷ rs ⌝ }
 {
     [
@@ -110,7 +111,7 @@ fn node_of(facts: u64, rs: [u64; 8]) -> [u64; 9]
 }
 
 // What stands after the state.
-fn residuals_of(node: [u64; 9]) -> [u64; 8]
+fn residuals_of(node: [u64; NODE]) -> [u64; 8]
     ensures { λ r. ⌜ r ≡ drop 1 node ⌝ }
 {
     [
@@ -146,7 +147,7 @@ pub fn start(job: &[u8]) -> Reached
 }
 
 // The node that action i, which is applicable, leads to. The constraints see the state after the action; where there are none, no residual is copied.
-pub fn next(job: &[u8], work: &mut [u64], node: [u64; 9], i: u8) -> Reached
+pub fn next(job: &[u8], work: &mut [u64], node: [u64; NODE], i: u8) -> Reached
     requires { ⌜ (jobVerdict (now job) ≡ Fine) × (i < actionCount (now job)) × Applies (jobOf (now job)) (nodeIs (constraintCount (now job)) node) i
         × Workspace (now job) (now work) ⌝ }
     ensures { λ r. ⌜ Leads (constraintCount (now (job .entry)))
@@ -169,7 +170,7 @@ pub fn next(job: &[u8], work: &mut [u64], node: [u64; 9], i: u8) -> Reached
 }
 
 // Whether a path may end at a node: the goal is true, and so is each constraint's residual, of the closing world.
-pub fn is_goal(job: &[u8], work: &mut [u64], node: [u64; 9]) -> bool
+pub fn is_goal(job: &[u8], work: &mut [u64], node: [u64; NODE]) -> bool
     requires { ⌜ (jobVerdict (now job) ≡ Fine) × Workspace (now job) (now work) ⌝ }
     ensures { λ r. ⌜ (r ≡ isGoal (jobOf (now (job .entry))) (nodeIs (constraintCount (now (job .entry))) node))
         × Workspace (now (job .entry)) (now (work .exit)) ⌝ }
@@ -190,7 +191,13 @@ pub fn start_hints(job: &[u8]) -> [u64; 8]
 }
 
 // What the hints leave at the node that action i led to.
-pub fn next_hints(job: &[u8], work: &mut [u64], hints: [u64; 8], node: [u64; 9], i: u8) -> [u64; 8]
+pub fn next_hints(
+    job: &[u8],
+    work: &mut [u64],
+    hints: [u64; 8],
+    node: [u64; NODE],
+    i: u8,
+) -> [u64; 8]
     requires { ⌜ (jobVerdict (now job) ≡ Fine) × (i < actionCount (now job)) × Workspace (now job) (now work) ⌝ }
     ensures { λ r. ⌜ Carries (hintCount (now (job .entry)))
         (carryHints (jobOf (now (job .entry))) (hintsIs (hintCount (now (job .entry))) hints) (nodeIs (constraintCount (now (job .entry))) node) i) r

@@ -5,7 +5,7 @@ use mathlib.Core.List.{List}
 use Prim.Native.Nat.{ℕ, _+_, _-_, _≤_, _<_}
 use lib.ListN.{take, drop}
 use Rattle.model.specs.declared.Verdict.the-variants.{Fine}
-use Rattle.model.specs.logic.Parts.{count, partsOf}
+use Rattle.model.specs.logic.Parts.{mostParts, count, partsOf}
 use Rattle.model.specs.logic.Reading.{Parsed, parsed}
 use Rattle.model.specs.logic.Names.{Names}
 use Rattle.model.specs.logic.Truth.{World}
@@ -21,7 +21,7 @@ use Rattle.progression.specs.Numbers.{After}
 use Rattle.progression.proofs.NumbersLaws.{NamesIn, read-named}
 
 module _ (bytes : List ℕ) (h : jobVerdict bytes ≡ Fine) (i : ℕ) (m : 1 ≤ i) (l : i < pairCount bytes) where
-  few-parts : count (formulaAt bytes i) ≤ 6
+  few-parts : count (formulaAt bytes i) ≤ mostParts
   unfolding partsOf
   few-parts = rw length-parts at (accepted-formula bytes h i m l .few-parts)
 
@@ -31,12 +31,12 @@ module _ (bytes : List ℕ) (h : jobVerdict bytes ≡ Fine) (i : ℕ) (m : 1 ≤
     lent-ready = rw (accepted-lent bytes h i m l p q) few-parts
 
     -- What the evaluator answers is of the job's formula.
-    pub lent-residual : (w : World) → residualOf (parsed 64 64 (take (o + n - o) (drop o bytes)) 0) w ≡ residual 6 (formulaAt bytes i) w
+    pub lent-residual : (w : World) → residualOf (parsed 64 64 (take (o + n - o) (drop o bytes)) 0) w ≡ residual mostParts (formulaAt bytes i) w
     unfolding residualOf
     lent-residual w = ap (λ (x : Parsed). residualOf x w) (accepted-lent bytes h i m l p q)
 
     pub lent-progressed : (r : ℕ) (w : World)
-        → progressedOf (parsed 64 64 (take (o + n - o) (drop o bytes)) 0) r w ≡ progressed 6 (partsOf (formulaAt bytes i)) r w
+        → progressedOf (parsed 64 64 (take (o + n - o) (drop o bytes)) 0) r w ≡ progressed mostParts (partsOf (formulaAt bytes i)) r w
     unfolding progressedOf
     lent-progressed r w = ap (λ (x : Parsed). progressedOf x r w) (accepted-lent bytes h i m l p q)
 
@@ -51,11 +51,11 @@ module _ (bytes : List ℕ) (h : jobVerdict bytes ≡ Fine) (i : ℕ) (m : 1 ≤
     lent-named f a hf ha = subst (NamesIn f a) (accepted-lent bytes h i m l p q) (read-named f a (take (o + n - o) (drop o bytes)) hf ha)
 
   -- A residual that is the same at every setting stays as it is.
-  pub settled-left : (r : ℕ) (w : World) → settled 6 r ≡ true → progressed 6 (partsOf (formulaAt bytes i)) r w ≡ r
-  settled-left = settled-stays 6 (partsOf (formulaAt bytes i)) (accepted-formula bytes h i m l .few-parts)
+  pub settled-left : (r : ℕ) (w : World) → settled mostParts r ≡ true → progressed mostParts (partsOf (formulaAt bytes i)) r w ≡ r
+  settled-left = settled-stays mostParts (partsOf (formulaAt bytes i)) (accepted-formula bytes h i m l .few-parts)
 
-  pub settled-closed : (r : ℕ) (w : World) → settled 6 r ≡ true → closing (partsOf (formulaAt bytes i)) r w ≡ not (dead r)
-  settled-closed = settled-closing 6 (partsOf (formulaAt bytes i)) (accepted-formula bytes h i m l .few-parts)
+  pub settled-closed : (r : ℕ) (w : World) → settled mostParts r ≡ true → closing (partsOf (formulaAt bytes i)) r w ≡ not (dead r)
+  settled-closed = settled-closing mostParts (partsOf (formulaAt bytes i)) (accepted-formula bytes h i m l .few-parts)
 
 -- There are at most sixteen formulas.
 pub few-sections : (bytes : List ℕ) → jobVerdict bytes ≡ Fine → pairCount bytes ≤ 17

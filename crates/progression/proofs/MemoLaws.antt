@@ -11,7 +11,7 @@ use lib.ListN.{length, getD}
 use Rattle.model.specs.Bits.{bit, digit}
 use Rattle.model.specs.logic.Formula.{choose}
 use Rattle.model.specs.logic.Names.{Names}
-use Rattle.model.specs.logic.Parts.{partsOf}
+use Rattle.model.specs.logic.Parts.{mostParts, partsOf}
 use Rattle.model.specs.logic.Progression.{progressed, closing}
 use Rattle.model.specs.job.Layout.{pairCount, formulaAt}
 use Rattle.progression.specs.declared.entries.Question.{Question}
@@ -55,16 +55,16 @@ module _ (job w : List ℕ) (work : Workspace job w) (few : pairCount job ≤ 17
         go false g = omega arith
 
     next-asked : answer (formulaAt job i) made r (bitAnd s (getD w (2 * i - 2) 0))
-        ≡ progressed 6 (partsOf (formulaAt job i)) r (record { state = s; made = some m })
+        ≡ progressed mostParts (partsOf (formulaAt job i)) r (record { state = s; made = some m })
     next-asked =
         ap (λ (n : ℕ). answer (formulaAt job i) n r (bitAnd s (getD w (2 * i - 2) 0))) is-made
         ∙ answer-next (getD w (2 * i - 2) 0) (getD w (2 * i - 1) 0) s (formulaAt job i) names r m h
 
     pub found-next : (c : Recalled) (x : ℕ) → Recalls w q c → c ≡ Answer x
-        → x ≡ progressed 6 (partsOf (formulaAt job i)) r (record { state = s; made = some m })
+        → x ≡ progressed mostParts (partsOf (formulaAt job i)) r (record { state = s; made = some m })
     found-next c x g e = found made-lt c x g e ∙ next-asked
 
-    pub kept-next : (x : ℕ) → x ≡ progressed 6 (partsOf (formulaAt job i)) r (record { state = s; made = some m })
+    pub kept-next : (x : ℕ) → x ≡ progressed mostParts (partsOf (formulaAt job i)) r (record { state = s; made = some m })
         → {v : List ℕ} → Remembers w q x v → Workspace job v
     kept-next x t = kept made-lt x (t ∙ sym next-asked)
 

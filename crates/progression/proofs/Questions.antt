@@ -10,7 +10,7 @@ use borrow.Author.Tests.{lt-ltb, ne-eqb}
 use Rattle.model.specs.Bits.{bit, digit}
 use Rattle.model.specs.logic.Formula.{Formula, choose}
 use Rattle.model.specs.logic.Names.{Names, Alike}
-use Rattle.model.specs.logic.Parts.{partsOf}
+use Rattle.model.specs.logic.Parts.{mostParts, partsOf}
 use Rattle.model.specs.logic.Truth.{isMade}
 use Rattle.model.specs.logic.Progression.{progressed, closing}
 use Rattle.model.proofs.bits.Bitwise.{bit-and}
@@ -39,12 +39,12 @@ module _ (f a s : ℕ) where
   module _ (φ : Formula) (names : Names f a φ) (r : ℕ) where
     -- what is asked after an action
     pub answer-next : (m : ℕ) → m < 64
-        → answer φ (choose (bit a m) m 255) r (bitAnd s f) ≡ progressed 6 (partsOf φ) r (record { state = s; made = some m })
+        → answer φ (choose (bit a m) m 255) r (bitAnd s f) ≡ progressed mostParts (partsOf φ) r (record { state = s; made = some m })
     answer-next m h =
         ap (λ (b : Bool). choose b (digit (closing (partsOf φ) r (record { state = bitAnd s f; made = none })))
-        (progressed 6 (partsOf φ) r (record { state = bitAnd s f; made = madeBy (choose (bit a m) m 255) })))
+        (progressed mostParts (partsOf φ) r (record { state = bitAnd s f; made = madeBy (choose (bit a m) m 255) })))
         (ne-eqb (choose (bit a m) m 255) 254 (other (bit a m)))
-        ∙ sym (progressed-alike f a _ _ (named-alike m h) φ names 6 r)
+        ∙ sym (progressed-alike f a _ _ (named-alike m h) φ names mostParts r)
       where
         other : (b : Bool) → choose b m 255 ≡ 254 → ⊥
         other true e = omega arith

@@ -9,7 +9,7 @@ use mathlib.Core.List.{List, [], _∷_, _++_}
 use lib.ListN.{length, take, getD, set, replicate}
 use lib.Seq.{take-suc, length-take-le}
 use Rattle.model.specs.logic.Formula.{Formula}
-use Rattle.model.specs.logic.Parts.{partsOf}
+use Rattle.model.specs.logic.Parts.{mostParts, partsOf}
 use Rattle.model.specs.logic.Truth.{World}
 use Rattle.model.specs.logic.Progression.{residual, progressed, closing}
 use Rattle.model.specs.job.Job.{listOf}
@@ -23,19 +23,19 @@ use Rattle.progression.proofs.Padding.{set-padded, padded-none}
 -- ---- one formula more after others
 
 module _ (φ : Formula) (w : World) where
-  residuals-snoc : (φs : List Formula) → residuals (φs ++ (φ ∷ [])) w ≡ residuals φs w ++ (residual 6 φ w ∷ [])
+  residuals-snoc : (φs : List Formula) → residuals (φs ++ (φ ∷ [])) w ≡ residuals φs w ++ (residual mostParts φ w ∷ [])
   unfolding residuals
   residuals-snoc [] = refl
-  residuals-snoc (ψ ∷ φs) = ap (λ (l : List ℕ). residual 6 ψ w ∷ l) (residuals-snoc φs)
+  residuals-snoc (ψ ∷ φs) = ap (λ (l : List ℕ). residual mostParts ψ w ∷ l) (residuals-snoc φs)
 
   module _ (r : ℕ) where
     progressedAll-snoc : (φs : List Formula) (rs : List ℕ) → length rs ≡ length φs
-        → progressedAll (φs ++ (φ ∷ [])) (rs ++ (r ∷ [])) w ≡ progressedAll φs rs w ++ (progressed 6 (partsOf φ) r w ∷ [])
+        → progressedAll (φs ++ (φ ∷ [])) (rs ++ (r ∷ [])) w ≡ progressedAll φs rs w ++ (progressed mostParts (partsOf φ) r w ∷ [])
     unfolding progressedAll
     progressedAll-snoc [] [] e = refl
     progressedAll-snoc [] (q ∷ rs) e = absurd (omega arith)
     progressedAll-snoc (ψ ∷ φs) [] e = absurd (omega arith)
-    progressedAll-snoc (ψ ∷ φs) (q ∷ rs) e = ap (λ (l : List ℕ). progressed 6 (partsOf ψ) q w ∷ l) (progressedAll-snoc φs rs (omega arith))
+    progressedAll-snoc (ψ ∷ φs) (q ∷ rs) e = ap (λ (l : List ℕ). progressed mostParts (partsOf ψ) q w ∷ l) (progressedAll-snoc φs rs (omega arith))
 
     closingAll-snoc : (φs : List Formula) (rs : List ℕ) → length rs ≡ length φs
         → closingAll (φs ++ (φ ∷ [])) (rs ++ (r ∷ [])) w ≡ closingAll φs rs w && closing (partsOf φ) r w
@@ -82,7 +82,8 @@ module _ (bytes : List ℕ) where
 
     -- ---- one entry more, as a loop stores it in the array t
     module _ (w : World) where
-      pub first-more : (i x : ℕ) (t : List ℕ) → t ≡ padded (residuals (formulasFrom bytes from i) w) → x ≡ residual 6 (formulaAt bytes (from + i)) w → i < 8
+      pub first-more : (i x : ℕ) (t : List ℕ) → t ≡ padded (residuals (formulasFrom bytes from i) w)
+          → x ≡ residual mostParts (formulaAt bytes (from + i)) w → i < 8
           → set t i x ≡ padded (residuals (formulasFrom bytes from (i + 1)) w)
       first-more i x t e f l =
           rw (e, f, formulasFrom-more, residuals-snoc) (set-padded _ i _ (length-residuals (formulasFrom bytes from i) w ∙ length-formulasFrom i) l)
@@ -92,7 +93,7 @@ module _ (bytes : List ℕ) where
         entries i l = length-take-le i rs l ∙ sym (length-formulasFrom i)
 
         pub next-more : (i x : ℕ) (t : List ℕ) → t ≡ padded (progressedAll (formulasFrom bytes from i) (take i rs) w)
-            → x ≡ progressed 6 (partsOf (formulaAt bytes (from + i))) (getD rs i 0) w → i < 8 → i < length rs
+            → x ≡ progressed mostParts (partsOf (formulaAt bytes (from + i))) (getD rs i 0) w → i < 8 → i < length rs
             → set t i x ≡ padded (progressedAll (formulasFrom bytes from (i + 1)) (take (i + 1) rs) w)
         next-more i x t e f l m =
             let p : take (i + 1) rs ≡ take i rs ++ (getD rs i 0 ∷ []) = rw (add-one, take-suc rs i 0) in

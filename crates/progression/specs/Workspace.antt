@@ -13,7 +13,7 @@ use lib.ListN.{length, getD, set, replicate}
 use Rattle.model.specs.Bits.{digit}
 use Rattle.model.specs.logic.Formula.{Formula, choose}
 use Rattle.model.specs.logic.Names.{Names}
-use Rattle.model.specs.logic.Parts.{partsOf}
+use Rattle.model.specs.logic.Parts.{mostParts, partsOf}
 use Rattle.model.specs.logic.Progression.{progressed, closing}
 use Rattle.model.specs.job.Layout.{pairCount, pairOffset, pairLength, formulaAt}
 use Rattle.residual.specs.Node.{madeBy}
@@ -25,7 +25,7 @@ use Rattle.progression.specs.declared.entries.Recalled.the-variants.{Ans
 abbrev pub answer : Formula → ℕ → ℕ → ℕ → ℕ
 answer φ m r s =
     choose (eqb m 254) (digit (closing (partsOf φ) r (record { state = s; made = none })))
-    (progressed 6 (partsOf φ) r (record { state = s; made = madeBy m }))
+    (progressed mostParts (partsOf φ) r (record { state = s; made = madeBy m }))
 
 -- an entry is empty, or its answer is right
 abbrev pub Entry : List ℕ → ℕ → ℕ → ℕ → ℕ → Type 0

@@ -12,7 +12,7 @@ ghost use lib.ListN.{length, getD};
 ghost use Rattle.model.specs.declared.Verdict.the-variants.{Fine};
 ghost use Rattle.model.specs.Bits.{bit, digit};
 ghost use Rattle.model.specs.logic.Formula.{choose};
-ghost use Rattle.model.specs.logic.Parts.{partsOf};
+ghost use Rattle.model.specs.logic.Parts.{mostParts, partsOf};
 ghost use Rattle.model.specs.logic.Progression.{progressed, closing};
 ghost use Rattle.model.specs.job.Layout.{pairCount, formulaAt};
 ghost use Rattle.model.specs.job.Decoding.{jobVerdict};
@@ -54,7 +54,7 @@ fn digit_of(b: bool) -> u64
 // What a residual of the formula in section i leaves after a world.
 pub fn next(job: &[u8], work: &mut [u64], i: usize, r: u64, state: u64, action: u8) -> u64
     requires { ⌜ (jobVerdict (now job) ≡ Fine) × (1 ≤ i) × (i < pairCount (now job)) × (action < 64) × Workspace (now job) (now work) ⌝ }
-    ensures { λ x. ⌜ (x ≡ progressed 6 (partsOf (formulaAt (now (job .entry)) i)) r (record { state = state; made = some action }))
+    ensures { λ x. ⌜ (x ≡ progressed mostParts (partsOf (formulaAt (now (job .entry)) i)) r (record { state = state; made = some action }))
         × Workspace (now (job .entry)) (now (work .exit)) ⌝ }
 {
     if section::is_settled(r) {

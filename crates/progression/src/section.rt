@@ -5,7 +5,7 @@ ghost use mathlib.Core.Path.{_≡_};
 ghost use mathlib.Core.Option.{none, some};
 ghost use Prim.Native.Nat.{_≤_, _<_};
 ghost use Rattle.model.specs.declared.Verdict.the-variants.{Fine};
-ghost use Rattle.model.specs.logic.Parts.{partsOf};
+ghost use Rattle.model.specs.logic.Parts.{mostParts, partsOf};
 ghost use Rattle.model.specs.logic.Names.{Names};
 ghost use Rattle.model.specs.logic.Progression.{settled, residual, progressed, closing};
 ghost use Rattle.model.specs.job.Layout.{pairCount, formulaAt};
@@ -13,7 +13,7 @@ ghost use Rattle.model.specs.job.Decoding.{jobVerdict};
 
 // Whether a residual is the same at every setting of its carried parts: such a one stays as it is.
 pub fn is_settled(r: u64) -> bool
-    ensures { λ b. ⌜ b ≡ settled 6 r ⌝ }
+    ensures { λ b. ⌜ b ≡ settled mostParts r ⌝ }
 {
     r == 0 || r == 0xffff_ffff_ffff_ffff
 }
@@ -21,7 +21,7 @@ pub fn is_settled(r: u64) -> bool
 // What the formula leaves after the first world.
 pub fn first(job: &[u8], i: usize, state: u64) -> u64
     requires { ⌜ (jobVerdict (now job) ≡ Fine) × (1 ≤ i) × (i < pairCount (now job)) ⌝ }
-    ensures { λ r. ⌜ r ≡ residual 6 (formulaAt (now (job .entry)) i) (record { state = state; made = none }) ⌝ }
+    ensures { λ r. ⌜ r ≡ residual mostParts (formulaAt (now (job .entry)) i) (record { state = state; made = none }) ⌝ }
 {
     let start = access::section_offset(job, i);
     let end = start + access::section_length(job, i);
@@ -31,7 +31,7 @@ pub fn first(job: &[u8], i: usize, state: u64) -> u64
 // What a residual of the formula leaves after a world.
 pub fn next(job: &[u8], i: usize, r: u64, state: u64, action: u8) -> u64
     requires { ⌜ (jobVerdict (now job) ≡ Fine) × (1 ≤ i) × (i < pairCount (now job)) × (action < 64) ⌝ }
-    ensures { λ x. ⌜ x ≡ progressed 6 (partsOf (formulaAt (now (job .entry)) i)) r (record { state = state; made = some action }) ⌝ }
+    ensures { λ x. ⌜ x ≡ progressed mostParts (partsOf (formulaAt (now (job .entry)) i)) r (record { state = state; made = some action }) ⌝ }
 {
     let start = access::section_offset(job, i);
     let end = start + access::section_length(job, i);

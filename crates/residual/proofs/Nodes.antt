@@ -14,7 +14,7 @@ use Rattle.model.specs.declared.Binary.{Binary}
 use Rattle.model.specs.declared.Binary.the-variants.{And, Or, Until, Release}
 use Rattle.model.specs.Bits.{bit}
 use Rattle.model.specs.logic.Formula.{Formula, constant, fact, action, unary, binary, choose}
-use Rattle.model.specs.logic.Parts.{count, temporal, temporal1, temporal2}
+use Rattle.model.specs.logic.Parts.{mostParts, count, temporal, temporal1, temporal2}
 use Rattle.model.specs.logic.Truth.{World, isMade}
 use Rattle.model.proofs.bits.Bits.{bit-ofBits, ofBits-cong}
 use Rattle.bits.specs.Tables.{everywhere}
@@ -71,18 +71,18 @@ module _ (closing : Bool) (w : World) where
       go false = refl
 
   -- a formula whose truth is the same at every setting has the constant table
-  table-everywhere : (b : Bool) (φ : Formula) (n : ℕ) → ((s : ℕ → Bool) → b ≡ truth closing w φ n s) → everywhere 6 b ≡ tableOf closing w φ n
+  table-everywhere : (b : Bool) (φ : Formula) (n : ℕ) → ((s : ℕ → Bool) → b ≡ truth closing w φ n s) → everywhere mostParts b ≡ tableOf closing w φ n
   unfolding everywhere tableOf
   table-everywhere b φ n e = ofBits-cong 64 _ _ (λ k h. e (bit k))
 
   -- the tables of a constant, a fact and an action are constant
-  pub table-constant : (c : Constant) (n : ℕ) → everywhere 6 (truth0 closing c) ≡ tableOf closing w (constant c) n
+  pub table-constant : (c : Constant) (n : ℕ) → everywhere mostParts (truth0 closing c) ≡ tableOf closing w (constant c) n
   table-constant c n = table-everywhere _ (constant c) n (truth-constant c n)
 
-  pub table-fact : (i n : ℕ) → everywhere 6 (bit (w .state) i) ≡ tableOf closing w (fact i) n
+  pub table-fact : (i n : ℕ) → everywhere mostParts (bit (w .state) i) ≡ tableOf closing w (fact i) n
   table-fact i n = table-everywhere _ (fact i) n (truth-fact i n)
 
-  pub table-action : (a n : ℕ) → everywhere 6 (isMade (w .made) a) ≡ tableOf closing w (action a) n
+  pub table-action : (a n : ℕ) → everywhere mostParts (isMade (w .made) a) ≡ tableOf closing w (action a) n
   table-action a n = table-everywhere _ (action a) n (truth-action a n)
 
   -- ---- one operand

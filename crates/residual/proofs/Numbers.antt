@@ -17,7 +17,7 @@ use Rattle.model.specs.declared.Code.{Code}
 use Rattle.model.specs.declared.Code.the-variants.{Leaf, Fact, Action, One, Two, Unknown}
 use Rattle.model.specs.logic.Formula.{Formula, constant, fact, action, unary, binary, choose}
 use Rattle.model.specs.logic.Reading.{Parsed, formula, wrong, then, andThen, numbered, operands, parsed}
-use Rattle.model.specs.logic.Parts.{count, temporal, temporal1, temporal2}
+use Rattle.model.specs.logic.Parts.{mostParts, count, temporal, temporal1, temporal2}
 use Rattle.model.proofs.logic.ReadingLaws.{at-the-end}
 use Rattle.formula.specs.Extent.{carries, isNext}
 use Rattle.residual.specs.Walk.{starts, after, behind, Few}
@@ -101,12 +101,12 @@ module _ (under : Bool) (i : ℕ) where
   two-few o rec (wrong p) h = h
   two-few o rec (formula φ m) h = go (rec m) h
     where
-      go : (q : Parsed) → Few (then (binary o φ) q) under i → behind φ false (after (temporal2 o) (starts under (temporal2 o) i)) ≤ 6
+      go : (q : Parsed) → Few (then (binary o φ) q) under i → behind φ false (after (temporal2 o) (starts under (temporal2 o) i)) ≤ mostParts
       go (formula ψ n) h = omega (arith, behind-le ψ false (behind φ false (after (temporal2 o) (starts under (temporal2 o) i))))
       go (wrong q) h = absurd h
 
 -- what is asked of a number holds of those before
-few-le : (p : Parsed) (u : Bool) (n : ℕ) → Few p u n → n ≤ 6
+few-le : (p : Parsed) (u : Bool) (n : ℕ) → Few p u n → n ≤ mostParts
 few-le (formula φ m) u n h = omega (arith, behind-le φ u n)
 few-le (wrong p) u n h = absurd h
 
@@ -136,11 +136,11 @@ module _ (v a : ℕ) (s : List ℕ) (under : Bool) (i : ℕ) where
 
   -- a fact and an action have no number inside
   numbered-le : (f : ℕ → Formula) → ((n : ℕ) → behind (f n) under i ≡ starts under false i) → (b at : ℕ)
-      → Few (numbered v a s f b at) under i → starts under false i ≤ 6
+      → Few (numbered v a s f b at) under i → starts under false i ≤ mostParts
   numbered-le f e b at h = omega (arith, e (getD s at 0), rw (few-number f b at h .2) at h)
 
-  -- the numbers inside a formula are among the six
-  pub inner-le : (c : Code) (rec : ℕ → Parsed) (at : ℕ) → Few (operands v a s c rec at) under i → after (carries c) (starts under (carries c) i) ≤ 6
+  -- the first number inside a formula is at most the most parts that there may be
+  pub inner-le : (c : Code) (rec : ℕ → Parsed) (at : ℕ) → Few (operands v a s c rec at) under i → after (carries c) (starts under (carries c) i) ≤ mostParts
   unfolding operands behind
   inner-le (Leaf c) rec at h = h
   inner-le Fact rec at h = numbered-le fact (λ n. refl) v (at + 1) h
@@ -149,13 +149,13 @@ module _ (v a : ℕ) (s : List ℕ) (under : Bool) (i : ℕ) where
   inner-le (Two o) rec at h = few-le (rec (at + 1)) false _ (two-few under i o rec (rec (at + 1)) h)
   inner-le Unknown rec at h = absurd h
 
--- a formula that is a part has a number among the six, if those inside have
-pub part-below : (under carried : Bool) (i : ℕ) → after carried (starts under carried i) ≤ 6 → under || carried ≡ true → i < 6
+-- a formula that is a part has the number of an unknown, if those inside have
+pub part-below : (under carried : Bool) (i : ℕ) → after carried (starts under carried i) ≤ mostParts → under || carried ≡ true → i < mostParts
 part-below true true i h e = omega arith
 part-below true false i h e = omega arith
 part-below false true i h e = omega arith
 part-below false false i h e = let z : _≡_ {A = ℕ} 0 1 = cc in omega arith
 
--- the numbers from the start of a formula on are among the six, if those inside are
-pub first-le : (under carried : Bool) (i : ℕ) → after carried (starts under carried i) ≤ 6 → i ≤ 6
+-- the numbers from the start of a formula on are those of unknowns, if those inside are
+pub first-le : (under carried : Bool) (i : ℕ) → after carried (starts under carried i) ≤ mostParts → i ≤ mostParts
 first-le under carried i h = omega (arith, starts-le under carried i, after-le carried (starts under carried i))

@@ -12,7 +12,7 @@ use Rattle.model.specs.declared.Unary.the-variants.{Not, Next, Eventually, Alwa
 use Rattle.model.specs.declared.Binary.the-variants.{And, Or, Until, Release}
 use Rattle.model.specs.Bits.{bit, bitsOf}
 use Rattle.model.specs.logic.Formula.{Formula, constant, fact, action, unary, binary, choose}
-use Rattle.model.specs.logic.Parts.{size, count, temporal, Part, parts, partsOf}
+use Rattle.model.specs.logic.Parts.{mostParts, size, count, temporal, Part, parts, partsOf}
 use Rattle.model.specs.logic.Truth.{World}
 use Rattle.model.proofs.bits.Bits.{ofBits-lt, bit-ofBits, bits-ext, bit-zero}
 use Rattle.model.proofs.bits.BitsOf.{bitsOf-lt, bitsOf-head, bitsOf-tail}
@@ -149,13 +149,14 @@ module _ (closing : Bool) (w : World) where
         ∙ sym (bitsOf-tail truthAt p ps i)
 
     -- the setting that the tables make at k
-    pub setting-parts : (φ : Formula) → count φ ≤ 6 → settingAt 6 (filled closing w φ false 0 (replicate 6 0)) k ≡ bitsOf truthAt (partsOf φ)
+    pub setting-parts : (φ : Formula) → count φ ≤ mostParts
+        → settingAt mostParts (filled closing w φ false 0 (replicate mostParts 0)) k ≡ bitsOf truthAt (partsOf φ)
     unfolding settingAt partsOf
     setting-parts φ h =
-        let f : ℕ → Bool = λ j. bit (getD (filled closing w φ false 0 (replicate 6 0)) j 0) k in
-        let few : length (parts φ 0 0) ≤ 6 = omega (arith, length-parts φ 0 0) in
-        bits-ext 6 _ _ (ofBits-lt 6 f) (lt-of-lt-of-le (bitsOf-lt truthAt (parts φ 0 0)) (pow-mono few))
-        (λ i l. bit-ofBits 6 f i l
-        ∙ ap (λ (x : List ℕ). bit (getD x i 0) k) (filled-parts φ 0 0 (replicate 6 0))
-        ∙ ap (λ (m : ℕ). bit (getD (stored (replicate 6 0) 0 (parts φ 0 0)) m 0) k) (sym (zero-add i))
-        ∙ stored-bits (parts φ 0 0) (replicate 6 0) 0 (omega arith) (λ j g. zeros-at 6 j) i)
+        let f : ℕ → Bool = λ j. bit (getD (filled closing w φ false 0 (replicate mostParts 0)) j 0) k in
+        let few : length (parts φ 0 0) ≤ mostParts = omega (arith, length-parts φ 0 0) in
+        bits-ext mostParts _ _ (ofBits-lt mostParts f) (lt-of-lt-of-le (bitsOf-lt truthAt (parts φ 0 0)) (pow-mono few))
+        (λ i l. bit-ofBits mostParts f i l
+        ∙ ap (λ (x : List ℕ). bit (getD x i 0) k) (filled-parts φ 0 0 (replicate mostParts 0))
+        ∙ ap (λ (m : ℕ). bit (getD (stored (replicate mostParts 0) 0 (parts φ 0 0)) m 0) k) (sym (zero-add i))
+        ∙ stored-bits (parts φ 0 0) (replicate mostParts 0) 0 (omega arith) (λ j g. zeros-at mostParts j) i)

@@ -10,7 +10,7 @@ use Rattle.model.specs.declared.Unary.the-variants.{Not, Next, Eventually, Alwa
 use Rattle.model.specs.declared.Binary.the-variants.{And, Or, Until, Release}
 use Rattle.model.specs.Bits.{bit}
 use Rattle.model.specs.logic.Formula.{Formula, constant, fact, action, unary, binary}
-use Rattle.model.specs.logic.Parts.{count, temporal1, temporal2}
+use Rattle.model.specs.logic.Parts.{mostParts, count, temporal1, temporal2}
 use Rattle.model.specs.logic.Truth.{World}
 use Rattle.model.specs.logic.Progression.{progress}
 use Rattle.model.proofs.bits.Bits.{bit-zero}
@@ -103,5 +103,5 @@ module _ (closing : Bool) (w : World) where
       (filled-from ψ false (behind φ false m) (filled closing w φ false m t) (filled-from φ false m t h))
 
   -- the tables that the walk leaves, from none on
-  pub filled-upward : (φ : Formula) → Upward 6 (filled closing w φ false 0 (replicate 6 0))
-  filled-upward φ i l = filled-from φ false 0 (replicate 6 0) (λ j k l hk hl e. rw (zeros-at 6 j) (bit-zero k ∙ sym (bit-zero l))) i
+  pub filled-upward : (φ : Formula) → Upward mostParts (filled closing w φ false 0 (replicate mostParts 0))
+  filled-upward φ i l = filled-from φ false 0 (replicate mostParts 0) (λ j k l hk hl e. rw (zeros-at mostParts j) (bit-zero k ∙ sym (bit-zero l))) i

@@ -9,7 +9,7 @@ use Rattle.model.specs.declared.Binary.{Binary}
 use Rattle.model.specs.Bits.{bit}
 use Rattle.model.specs.logic.Formula.{constant, fact, action, unary, binary}
 use Rattle.model.specs.logic.Reading.{Parsed, formula, wrong, then, andThen, parsed}
-use Rattle.model.specs.logic.Parts.{temporal1, temporal2}
+use Rattle.model.specs.logic.Parts.{mostParts, temporal1, temporal2}
 use Rattle.model.specs.logic.Truth.{World, isMade}
 use Rattle.model.proofs.logic.ReadingLaws.{parsed-grows}
 use Rattle.bits.specs.Tables.{everywhere}
@@ -54,21 +54,21 @@ module _ (closing : Bool) (w : World) where
       unfolding evaluated filledBy
       constant-answers c eb =
           kept-answers false part ep (formula (constant c) n) v
-          (ev ∙ (λ j. record { table = (ap (everywhere 6) eb ∙ table-constant closing w c (starts under false i)) j; next = n; parts = ei j }))
+          (ev ∙ (λ j. record { table = (ap (everywhere mostParts) eb ∙ table-constant closing w c (starts under false i)) j; next = n; parts = ei j }))
           t refl r x h
 
       pub fact-answers : (k : ℕ) → b ≡ bit (w .state) k → Answered (formula (fact k) n) r x
       unfolding evaluated filledBy
       fact-answers k eb =
           kept-answers false part ep (formula (fact k) n) v
-          (ev ∙ (λ j. record { table = (ap (everywhere 6) eb ∙ table-fact closing w k (starts under false i)) j; next = n; parts = ei j }))
+          (ev ∙ (λ j. record { table = (ap (everywhere mostParts) eb ∙ table-fact closing w k (starts under false i)) j; next = n; parts = ei j }))
           t refl r x h
 
       pub action-answers : (k : ℕ) → b ≡ isMade (w .made) k → Answered (formula (action k) n) r x
       unfolding evaluated filledBy
       action-answers k eb =
           kept-answers false part ep (formula (action k) n) v
-          (ev ∙ (λ j. record { table = (ap (everywhere 6) eb ∙ table-action closing w k (starts under false i)) j; next = n; parts = ei j }))
+          (ev ∙ (λ j. record { table = (ap (everywhere mostParts) eb ∙ table-action closing w k (starts under false i)) j; next = n; parts = ei j }))
           t refl r x h
 
     -- ---- one operand

@@ -66,7 +66,7 @@ truth2 Or p q rest = p || q
 truth2 Until p q rest = q || (p && rest)
 truth2 Release p q rest = q && (p || rest)
 
--- ---- the same of tables, for all settings of six unknowns
+-- ---- the same of tables, for all settings of the unknowns
 unfoldable pub tableOf : Bool → World → Formula → ℕ → ℕ
 unfolding truth bit ofBits
 tableOf closing w φ n = ofBits 64 (λ k. truth closing w φ n (bit k))

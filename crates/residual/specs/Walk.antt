@@ -8,7 +8,7 @@ use Rattle.model.specs.declared.Unary.{Unary}
 use Rattle.model.specs.declared.Binary.{Binary}
 use Rattle.model.specs.logic.Formula.{Formula, constant, fact, action, unary, binary}
 use Rattle.model.specs.logic.Reading.{Parsed, formula, wrong}
-use Rattle.model.specs.logic.Parts.{temporal, temporal1, temporal2}
+use Rattle.model.specs.logic.Parts.{mostParts, temporal, temporal1, temporal2}
 use Rattle.model.specs.logic.Truth.{World}
 use Rattle.bits.specs.Tables.{everywhere}
 use Rattle.formula.specs.Extent.{isNext}
@@ -64,14 +64,14 @@ module _ (closing : Bool) (w : World) where
   filledBy (formula φ n) under i t = filled φ under i t
   filledBy (wrong p) under i t = t
 
--- a formula was read, and its carried parts are among the six
+-- a formula was read, and the numbers of its carried parts are below the most that there may be
 abbrev pub Few : Parsed → Bool → ℕ → Type 0
-Few (formula φ n) under i = behind φ under i ≤ 6
+Few (formula φ n) under i = behind φ under i ≤ mostParts
 Few (wrong p) under i = ⊥
 
 -- ---- what the code makes of the operands' values
 abbrev pub leaf : Bool → ℕ → ℕ → Value
-leaf t n i = record { table = everywhere 6 t; next = n; parts = i }
+leaf t n i = record { table = everywhere mostParts t; next = n; parts = i }
 
 abbrev pub one : Bool → Unary → ℕ → Value → Value
 one closing o own p =

@@ -2,11 +2,13 @@
 use model::Binary;
 use model::Code;
 use model::Constant;
+use model::MOST_PARTS;
 use model::Unary;
 ghost use mathlib.Core.Path.{_≡_};
 ghost use mathlib.Core.Bool.{true};
 ghost use mathlib.Core.Option.{none, some};
-ghost use Prim.Native.Nat.{_<_, _≤_};
+ghost use Prim.Native.Nat.{_+_, _<_, _≤_};
+ghost use Rattle.model.specs.logic.Parts.{mostParts};
 ghost use Rattle.model.specs.logic.Reading.{parsed};
 ghost use Rattle.residual.specs.Node.{truth0, ofNothing1, ofNothing2, aheadTable, table1, table2, worldOf};
 ghost use Rattle.residual.specs.Walk.{starts, after, put, Few, evaluated, filledBy, leaf, one, two};
@@ -94,8 +96,8 @@ fn table_two(o: Binary, p: u64, q: u64, rest: u64) -> u64
 
 // The number that a formula's own unknown has, or the first part in it if it has none.
 fn own_number(under: bool, carried: bool, n: usize) -> usize
-    requires { ⌜ n ≤ 6 ⌝ }
-    ensures { λ r. ⌜ (r ≡ starts under carried n) × (r ≤ 7) ⌝ }
+    requires { ⌜ n ≤ mostParts ⌝ }
+    ensures { λ r. ⌜ (r ≡ starts under carried n) × (r ≤ mostParts + 1) ⌝ }
 {
     if under {
         if carried { n } else { n + 1 }
@@ -106,7 +108,7 @@ fn own_number(under: bool, carried: bool, n: usize) -> usize
 
 // The number of the first part inside.
 fn inner_number(carried: bool, own: usize) -> usize
-    requires { ⌜ own ≤ 7 ⌝ }
+    requires { ⌜ own ≤ mostParts + 1 ⌝ }
     ensures { λ r. ⌜ r ≡ after carried own ⌝ }
 {
     if carried { own + 1 } else { own }
@@ -148,8 +150,8 @@ fn with_two(o: Binary, p: Value, q: Value, own: usize, closing: bool) -> Value
 }
 
 // Keeps the table of a formula that is a carried part.
-fn keep(tables: &mut [u64; 6], part: bool, number: usize, v: Value) -> Value
-    requires { ⌜ (part ≡ true → number < 6) ⌝ }
+fn keep(tables: &mut [u64; MOST_PARTS], part: bool, number: usize, v: Value) -> Value
+    requires { ⌜ (part ≡ true → number < mostParts) ⌝ }
     ensures { λ r. ⌜ (r ≡ v) × (now (tables .exit) ≡ put part number (v .table) (now (tables .entry))) ⌝ }
 {
     if part {
@@ -159,7 +161,14 @@ fn keep(tables: &mut [u64; 6], part: bool, number: usize, v: Value) -> Value
 }
 
 // The formula at a position, and the tables of its carried parts; `under` says that it is the operand of a next, n numbers the first part.
-fn evaluate(s: &[u8], at: usize, m: Moment, under: bool, n: usize, tables: &mut [u64; 6]) -> Value
+fn evaluate(
+    s: &[u8],
+    at: usize,
+    m: Moment,
+    under: bool,
+    n: usize,
+    tables: &mut [u64; MOST_PARTS],
+) -> Value
     requires { ⌜ Few (parsed 64 64 (now s) at) under n ⌝ }
     ensures { λ r. ⌜ (r ≡ evaluated (m .closing) (worldOf m) (parsed 64 64 (now (s .entry)) at) under n)
         × (now (tables .exit) ≡ filledBy (m .closing) (worldOf m) (parsed 64 64 (now (s .entry)) at) under n (now (tables .entry))) ⌝ }
@@ -201,7 +210,7 @@ pub fn first(s: &[u8], state: u64) -> u64
     requires { ⌜ Ready (parsed 64 64 (now s) 0) ⌝ }
     ensures { λ r. ⌜ r ≡ residualOf (parsed 64 64 (now (s .entry)) 0) (record { state = state; made = none }) ⌝ }
 {
-    let mut tables = [0u64; 6];
+    let mut tables = [0u64; MOST_PARTS];
     let m = Moment {
         state,
         action: 255,
@@ -216,7 +225,7 @@ pub fn next(s: &[u8], r: u64, state: u64, action: u8) -> u64
     requires { ⌜ Ready (parsed 64 64 (now s) 0) × (action < 64) ⌝ }
     ensures { λ x. ⌜ x ≡ progressedOf (parsed 64 64 (now (s .entry)) 0) r (record { state = state; made = some action }) ⌝ }
 {
-    let mut tables = [0u64; 6];
+    let mut tables = [0u64; MOST_PARTS];
     let m = Moment {
         state,
         action,
@@ -231,7 +240,7 @@ pub fn closing(s: &[u8], r: u64, state: u64) -> bool
     requires { ⌜ Ready (parsed 64 64 (now s) 0) ⌝ }
     ensures { λ b. ⌜ b ≡ closingOf (parsed 64 64 (now (s .entry)) 0) r (record { state = state; made = none }) ⌝ }
 {
-    let mut tables = [0u64; 6];
+    let mut tables = [0u64; MOST_PARTS];
     let m = Moment {
         state,
         action: 255,

@@ -12,6 +12,8 @@ use Rattle.model.specs.exploration.System.{System}
 use Rattle.model.specs.exploration.Explore.{Entry}
 use Rattle.model.specs.logic.Formula.{choose}
 use Rattle.model.specs.search.Node.{Node}
+use Rattle.model.specs.search.Query.{Query}
+use Rattle.model.specs.calls.Search.{slotBytes}
 use Rattle.dijkstra.specs.Records.{Held, Table, pathOf}
 use Rattle.dijkstra.specs.Search.{firstGoal}
 use Rattle.dijkstra.proofs.Invariant.{Inv}
@@ -79,11 +81,12 @@ chosen-path ss c s i true Nothing h = refl
 chosen-path ss c s i true (At b) h = first-path ss s i b (order ss b i) (ap (λ (k : ℕ). earlier (slotPath ss k b) (slotPath ss k i)) (sym (h .3)))
 
 -- A sound slot is due if its record is an uncut goal of the key.
-due-record : (job : List ℕ) (c s : ℕ) (x : Slot) → Sound job x → AtGoal (sys job) (keyOf c s) (heldIs job x) ≡ due job c s x
+due-record : (job : Query) (c s : ℕ) (x : Slot) → Sound job x → AtGoal (sys job) (keyOf c s) (heldIs job x) ≡ due job c s x
 unfolding due heldIs
 due-record job c s x h = ap (λ (b : Bool). sameKey (heldIs job x .key) (keyOf c s) && not (sys job .cut (heldIs job x .hints)) && b) (sym (h .marked))
 
-module _ (job : List ℕ) (n : ℕ) (t : List ℕ) (room : n * 160 ≤ length t) (sound : SoundTo job n t) {m0 : Node} {P : Entry (sys job) → Type 0} (inv : Inv (sys job) m0 (heldIn job n t) P) (c s : ℕ) where
+module _ (job : Query) (n : ℕ) (t : List ℕ) (room : n * slotBytes ≤ length t) (sound : SoundTo job n t) {m0 : Node} {P : Entry (sys job) → Type 0}
+    (inv : Inv (sys job) m0 (heldIn job n t) P) (c s : ℕ) where
   abbrev T : Table (sys job)
   T = heldIn job n t
 

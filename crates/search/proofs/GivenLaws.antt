@@ -15,11 +15,13 @@ use Rattle.model.specs.declared.Searched.the-variants.{Planned, Refused}
 use Rattle.model.specs.Verdict.{refusal}
 use Rattle.model.specs.calls.Search as calls
 use Rattle.model.specs.calls.Search.{searchEnd, slotsIn, cleared, writtenOver, ruled, tooSmall, SearchGives}
+use Rattle.model.specs.exploration.System.{System}
 use Rattle.model.specs.exploration.Equations.{no-plan}
 use Rattle.model.specs.exploration.Explore.{reached, solve}
 use Rattle.model.specs.job.Layout.{jobOf}
 use Rattle.model.specs.job.Decoding.{jobVerdict}
 use Rattle.model.specs.search.JobSystem.{solveJob, reachedCount}
+use Rattle.model.specs.search.Query.{query}
 use Rattle.dijkstra.specs.Search.{Result, answered, too-small, searchIn}
 use Rattle.dijkstra.proofs.Right.{search-right}
 use Rattle.table.specs.Slots.{slotAt}
@@ -68,23 +70,27 @@ module _ (job table buffer : List ℕ) where
   bad-gives e = inl (rw (e, ruled))
 
   module _ (fine : jobVerdict job ≡ Fine) where
+    -- the system that is searched
+    abbrev S : System
+    S = sys (query job)
+
     -- Of an accepted job it is the answer that decides.
     ruled-is : ruled job table buffer ≡ calls.answered (solveJob (jobOf job)) table buffer
     unfolding ruled
     ruled-is = rw (fine, ruled)
 
     -- What the search in the table comes to is what a search gives.
-    ends-right : SearchGives job table buffer (endOf (searchIn (sys job) (slotsIn table)) table buffer)
+    ends-right : SearchGives job table buffer (endOf (searchIn S (slotsIn table)) table buffer)
     unfolding solveJob reachedCount
-    ends-right = go (search-right (sys job) (sys-laws job) (sys-finite job fine) (slotsIn table))
+    ends-right = go (search-right S (sys-laws (query job)) (sys-finite (query job) fine) (slotsIn table))
       where
-        go : (searchIn (sys job) (slotsIn table) ≡ answered (solve (sys job))) ⊎ ((slotsIn table < length (reached (sys job))) × (searchIn (sys job) (slotsIn table) ≡ too-small))
-            → SearchGives job table buffer (endOf (searchIn (sys job) (slotsIn table)) table buffer)
+        go : (searchIn S (slotsIn table) ≡ answered (solve S)) ⊎ ((slotsIn table < length (reached S)) × (searchIn S (slotsIn table) ≡ too-small))
+            → SearchGives job table buffer (endOf (searchIn S (slotsIn table)) table buffer)
         go (inl e) = inl (rw e (sym ruled-is))
         go (inr e) = inr ((fine, e .0), rw (e .1) refl)
 
     -- The table is cleared last.
-    pub fine-gives : (r : Searched) (used after last : List ℕ) → searchEnd r (cleared table) after ≡ endOf (searchIn (sys job) (slotsIn table)) table buffer
+    pub fine-gives : (r : Searched) (used after last : List ℕ) → searchEnd r (cleared table) after ≡ endOf (searchIn S (slotsIn table)) table buffer
         → last ≡ replicate (length used) 0 → length used ≡ length table → SearchGives job table buffer (searchEnd r last after)
     unfolding cleared
     fine-gives r used after last e h l =

@@ -13,6 +13,8 @@ use Rattle.model.specs.logic.Formula.{choose}
 use Rattle.model.specs.exploration.Key.{Key, sameKey}
 use Rattle.model.specs.job.Layout.{hintCount}
 use Rattle.model.specs.search.Node.{someDead}
+use Rattle.model.specs.search.Query.{Query}
+use Rattle.model.specs.calls.Search.{slotBytes}
 use Rattle.model.proofs.exploration.KeyLaws.{same-key}
 use Rattle.model.proofs.Tests.{and-both}
 use Rattle.dijkstra.specs.Search.{someCutIn}
@@ -30,7 +32,17 @@ use Rattle.search.specs.GoalSlots.{due, chosen, firstDue, Behind}
 
 -- ---- whether a slot is due, test by test
 
-module _ (job : List ℕ) (c s : ℕ) (x : Slot) where
+module _ (job : Query) (c s : ℕ) (x : Slot) where
+  -- A slot that is no goal is not due.
+  pub no-goal : (g : Bool) → g ≡ x .goal → not g ≡ true → false ≡ due job c s x
+  unfolding due
+  no-goal g e n = go (sameKey (keyOf (x .cost) (x .steps)) (keyOf c s)) (not (someDead (hintsIs (hintCount (job .bytes)) (x .hints)))) (sym e ∙ not-true g n)
+    where
+      go : (a b : Bool) {y : Bool} → y ≡ false → false ≡ (a && b && y)
+      go true true h = sym h
+      go true false h = refl
+      go false b h = refl
+
   -- A slot of another cost is not due.
   pub other-cost : (v : ℕ) → v ≡ x .cost → (v ≡ c → ⊥) → false ≡ due job c s x
   unfolding due sameKey
@@ -41,23 +53,25 @@ module _ (job : List ℕ) (c s : ℕ) (x : Slot) where
   unfolding due sameKey
   other-steps v e n = go (eqb (x .cost) c)
     where
-      go : (b : Bool) → false ≡ (elim b [ true ↦ eqb (x .steps) s | false ↦ false ]) && not (someDead (hintsIs (hintCount job) (x .hints))) && x .goal
+      go : (b : Bool) → false ≡ (elim b [ true ↦ eqb (x .steps) s | false ↦ false ]) && not (someDead (hintsIs (hintCount (job .bytes)) (x .hints))) && x .goal
       go true = rw (ne-eqb (x .steps) s (λ q. n (e ∙ q)))
       go false = refl
 
-  -- A slot of that cost and number of steps is loaded and looked at: it is not due if it is cut.
-  module _ (v w : ℕ) (ev : v ≡ x .cost) (ew : w ≡ x .steps) (ec : v ≡ c) (es : w ≡ s) (z : Slot) (loaded : z ≡ x) (d : Bool) (cut : d ≡ someDead (hintsIs (hintCount job) (z .hints))) where
-    is-cut : someDead (hintsIs (hintCount job) (x .hints)) ≡ d
-    is-cut = sym (cut ∙ ap (λ (y : Slot). someDead (hintsIs (hintCount job) (y .hints))) loaded)
+  -- A slot of that cost and number of steps is loaded, and its hints are looked at.
+  module _ (v w : ℕ) (ev : v ≡ x .cost) (ew : w ≡ x .steps) (ec : v ≡ c) (es : w ≡ s) (z : Slot) (loaded : z ≡ x) (d : Bool)
+      (cut : d ≡ someDead (hintsIs (hintCount (job .bytes)) (z .hints))) where
+    is-cut : someDead (hintsIs (hintCount (job .bytes)) (x .hints)) ≡ d
+    is-cut = sym (cut ∙ ap (λ (y : Slot). someDead (hintsIs (hintCount (job .bytes)) (y .hints))) loaded)
 
-    pub not-due : d ≡ true → false ≡ due job c s x
+    -- A goal of that cost and number of steps is due unless it is cut.
+    pub is-due : (g : Bool) → g ≡ x .goal → not g ≡ false → not d ≡ due job c s x
     unfolding due sameKey
-    not-due e = rw (eq-eqb (x .cost) c (sym ev ∙ ec), sameKey, eq-eqb (x .steps) s (sym ew ∙ es), is-cut ∙ e)
-
-    -- A slot that is not cut is due if it is a goal.
-    pub is-due : d ≡ false → z .goal ≡ due job c s x
-    unfolding due sameKey
-    is-due e = ap (λ (y : Slot). y .goal) loaded ∙ rw (eq-eqb (x .cost) c (sym ev ∙ ec), sameKey, eq-eqb (x .steps) s (sym ew ∙ es), is-cut ∙ e) refl
+    is-due g e n =
+        rw (eq-eqb (x .cost) c (sym ev ∙ ec), sameKey, eq-eqb (x .steps) s (sym ew ∙ es), is-cut, sym e ∙ not-false g n) (go d)
+      where
+        go : (b : Bool) → not b ≡ (not b && true)
+        go true = refl
+        go false = refl
 
   -- A slot that is due has that cost and so many steps.
   pub due-key : due job c s x ≡ true → (x .cost ≡ c) × (x .steps ≡ s)
@@ -68,7 +82,7 @@ module _ (job : List ℕ) (c s : ℕ) (x : Slot) where
 
 -- ---- the choice between slot i and what was found after it; the test is y
 
-module _ (job t : List ℕ) (n c s i : ℕ) (f : Found) (y : Bool) (tested : y ≡ due job c s (slotAt t i)) where
+module _ (job : Query) (t : List ℕ) (n c s i : ℕ) (f : Found) (y : Bool) (tested : y ≡ due job c s (slotAt t i)) where
   abbrev Chosen : Found
   Chosen = chosen (held t n) (due job c s (slotAt t i)) i f
 
@@ -100,8 +114,9 @@ module _ (job t : List ℕ) (n c s i : ℕ) (f : Found) (y : Bool) (tested : y �
   chosen-here b o p h q e = rw (q, sym tested ∙ not-false y h, ← p, e)
 
 -- What was found after slot i, which is due, can be compared with it.
-pub comparable : (job t : List ℕ) (n i b c s : ℕ) (f : Found) (y : Bool) → y ≡ due job c s (slotAt t i) → not y ≡ false → f ≡ At b → Behind (held t n) (i + 1) c s f
-    → n * 160 ≤ length t → i < n → Level (held t n) n b i
+pub comparable : (job : Query) (t : List ℕ) (n i b c s : ℕ) (f : Found) (y : Bool) → y ≡ due job c s (slotAt t i) → not y ≡ false → f ≡ At b
+    → Behind (held t n) (i + 1) c s f
+    → n * slotBytes ≤ length t → i < n → Level (held t n) n b i
 comparable job t n i b c s f y tested h e behind room g =
     let k : Behind (held t n) (i + 1) c s (At b) = rw e at behind in
     let size = length-first t n room in
@@ -110,7 +125,7 @@ comparable job t n i b c s f y tested h e behind room g =
 
 -- ---- the slots from i on
 
-module _ (job : List ℕ) (c s : ℕ) (ss : List Slot) where
+module _ (job : Query) (c s : ℕ) (ss : List Slot) where
   abbrev From : ℕ → Found
   From i = firstDue job c s ss (drop i ss) i
 
@@ -154,7 +169,7 @@ module _ (job : List ℕ) (c s : ℕ) (ss : List Slot) where
 
 -- ---- a cut slot among all; the first i are not cut
 
-module _ (job : List ℕ) (ss : List Slot) (i : ℕ) where
+module _ (job : Query) (ss : List Slot) (i : ℕ) where
   abbrev CutIn : List Slot → Bool
   CutIn xs = someCutIn (sys job) (map (heldIs job) xs)
 

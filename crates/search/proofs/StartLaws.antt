@@ -11,18 +11,20 @@ use Rattle.model.specs.declared.Verdict.the-variants.{Fine}
 use Rattle.model.specs.exploration.System.{System}
 use Rattle.model.specs.exploration.Key.{zeroKey}
 use Rattle.model.specs.exploration.Equations.{no-plan}
-use Rattle.model.specs.job.Layout.{constraintCount, hintCount, jobOf}
+use Rattle.model.specs.job.Layout.{constraintCount, hintCount}
 use Rattle.model.specs.job.Decoding.{jobVerdict}
 use Rattle.model.specs.search.Node.{Node}
 use Rattle.model.specs.search.JobSystem.{startNode, isGoal, startHints}
+use Rattle.model.specs.search.Query.{Query, jobFor}
+use Rattle.model.specs.calls.Search.{slotBytes}
 use Rattle.dijkstra.specs.Records.{Held}
 use Rattle.dijkstra.specs.Search.{answered, too-small, turns, startTable, searchIn}
 use Rattle.dijkstra.proofs.Turning.{Ready, start-ready}
 use Rattle.dijkstra.proofs.Right.{by-start}
 use Rattle.table.specs.declared.Slot.{Slot}
 use Rattle.table.specs.Slots.{slots}
-use Rattle.nodes.specs.Meaning.{nodeIs, Clean, Carries}
-use Rattle.held.specs.Held.{sys, heldIs, heldIn, Sound}
+use Rattle.nodes.specs.Meaning.{Clean, Carries}
+use Rattle.held.specs.Held.{sys, nodeFor, heldIs, heldIn, Sound}
 use Rattle.held.specs.Running.{Idle}
 use Rattle.held.proofs.JobLaws.{sys-laws}
 use Rattle.held.proofs.Storing.{append-held, append-sound}
@@ -33,20 +35,29 @@ use Rattle.search.specs.Outcome.{EndsAs, Begun}
 
 -- the slot of a start node
 abbrev pub startSlot : List ℕ → List ℕ → Bool → Slot
-startSlot node hints goal = record { node = node; hints = hints; cost = 0; steps = 0; parent = 0; action = 0; taken = false; goal = goal }
+startSlot node hints goal = record { node = node; hints = hints; cost = 0; steps = 0; estimate = 0; parent = 0; action = 0; taken = false; goal = goal }
 
-module _ (job t u node hints : List ℕ) (goal : Bool) (clean : Clean (constraintCount job) node) (carried : Carries (hintCount job) (startHints (jobOf job)) hints)
-    (marked : goal ≡ isGoal (jobOf job) (nodeIs (constraintCount job) node)) where
+module _ (job : Query) (t u node hints : List ℕ) (goal : Bool) (clean : Clean (constraintCount (job .bytes)) node)
+    (carried : Carries (hintCount (job .bytes)) (startHints (jobFor job)) hints)
+    (marked : goal ≡ isGoal (jobFor job) (nodeFor job node)) where
   -- It is sound, and stands for the first record of the start table.
   start-sound : Sound job (startSlot node hints goal)
-  start-sound = record { clean = clean; cleanHints = carried .clean; marked = marked; summed = omega arith }
+  start-sound = record { clean = clean; cleanHints = carried .clean; marked = marked; estimated = refl; summed = omega arith }
 
-  start-record : heldIs job (startSlot node hints goal) ≡ record { node = nodeIs (constraintCount job) node; key = zeroKey; hints = startHints (jobOf job); parent = 0; action = 0; taken = false }
+  start-record : heldIs job (startSlot node hints goal) ≡ record {
+    node = nodeFor job node;
+    key = zeroKey;
+    hints = startHints
+        (jobFor job);
+    parent = 0;
+    action = 0;
+    taken = false;
+  }
   unfolding heldIs zeroKey
-  start-record = λ z. record { node = nodeIs (constraintCount job) node; key = zeroKey; hints = carried .carries z; parent = 0; action = 0; taken = false }
+  start-record = λ z. record { node = nodeFor job node; key = zeroKey; hints = carried .carries z; parent = 0; action = 0; taken = false }
 
   -- Stored as slot 0, it is the start table.
-  pub begun : slots u ≡ set (slots t) 0 (startSlot node hints goal) → 160 ≤ length t → Begun job node u
+  pub begun : slots u ≡ set (slots t) 0 (startSlot node hints goal) → slotBytes ≤ length t → Begun job node u
   unfolding startTable heldIn
   begun e l = record {
     begins = append-held job t u 0 (startSlot node hints goal) e l ∙ ap (λ (r : Held (sys job)). r ∷ []) start-record;
@@ -54,10 +65,11 @@ module _ (job t u node hints : List ℕ) (goal : Bool) (clean : Clean (constrain
   }
 
 -- The search begins with a table between two turns.
-pub begun-idle : {job : List ℕ} {places : ℕ} {u node : List ℕ} → jobVerdict job ≡ Fine → startNode (jobOf job) ≡ some (nodeIs (constraintCount job) node) → Begun job node u
-    → places * 160 ≤ length u → places ≤ 65536 → 0 < places → Idle job places 1 u
+pub begun-idle : {job : Query} {places : ℕ} {u node : List ℕ} → jobVerdict (job .bytes) ≡ Fine → startNode (jobFor job) ≡ some (nodeFor job node)
+    → Begun job node u
+    → places * slotBytes ≤ length u → places ≤ 65536 → 0 < places → Idle job places 1 u
 begun-idle {job} {places} {u} {node} fine starts b room most l =
-    let m0 : Node = nodeIs (constraintCount job) node in (
+    let m0 : Node = nodeFor job node in (
       m0,
       record { accepted = fine; starts = starts; room = room; most = most; used = l; sound = b .sound },
       subst (Ready (sys job) places m0) (sym (b .begins)) (start-ready (sys job) places (sys-laws job) m0 l),
@@ -79,7 +91,8 @@ module _ (S : System) (places : ℕ) where
   search-turns e l = by-start S places e ∙ rw (lt-ltb 0 places l) refl
 
 -- What the turns end as, the search does.
-pub begun-ends : {job u node : List ℕ} {places slots : ℕ} (t : List ℕ) (r : Ended) → Begun job node u → startNode (jobOf job) ≡ some (nodeIs (constraintCount job) node)
+pub begun-ends : {job : Query} {u node : List ℕ} {places slots : ℕ} (t : List ℕ) (r : Ended) → Begun job node u
+    → startNode (jobFor job) ≡ some (nodeFor job node)
     → EndsAs t r (turns (sys job) places (suc places) (heldIn job 1 u)) → places ≡ slots → 0 < places → EndsAs t r (searchIn (sys job) slots)
 begun-ends {job} {u} {node} {places} {slots} t r b starts h e l =
     subst (EndsAs t r) (ap (turns (sys job) places (suc places)) (b .begins) ∙ sym (search-turns (sys job) places starts l) ∙ ap (searchIn (sys job)) e) h

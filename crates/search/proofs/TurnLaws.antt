@@ -3,11 +3,13 @@ use mathlib.Core.Path.{_≡_, refl, sym, ap, _∙_, subst}
 use mathlib.Core.Bool.{Bool, true, false}
 use mathlib.Core.Option.{none, some}
 use mathlib.Core.List.{List}
-use Prim.Native.Nat.{ℕ, zero, suc, _*_, _≤_, _<_}
+use Prim.Native.Nat.{ℕ, zero, suc, _+_, _*_, _≤_, _<_}
 use native.Mathlib.Omega.{arith}
 use lib.ListN.{length, set}
 use Rattle.model.specs.exploration.System.{System}
 use Rattle.model.specs.exploration.Equations.{plan, no-plan}
+use Rattle.model.specs.search.Query.{Query}
+use Rattle.model.specs.calls.Search.{slotBytes}
 use Rattle.dijkstra.specs.Records.{Held, Open, Table, leastOpen, take-it, mark}
 use Rattle.dijkstra.specs.Search.{Result, answered, too-small, Filled, goes-on, full, follow, expand, firstGoal, someCutIn, exhausted, turns}
 use Rattle.dijkstra.proofs.Slots.{Holds, holds-one}
@@ -18,6 +20,7 @@ use Rattle.table.specs.declared.Slot.{Slot}
 use Rattle.table.specs.declared.Found.{Found}
 use Rattle.table.specs.declared.Found.the-variants.{At, Nothing}
 use Rattle.table.specs.Slots.{slots, slotAt, takenSlot}
+use Rattle.table.specs.Lookup.{rankAt}
 use Rattle.table.proofs.LookupLaws.{length-first, first-at}
 use Rattle.paths.specs.Chain.{held, stepsAt, slotPath, Chained}
 use Rattle.held.specs.Held.{sys, heldIs, heldIn}
@@ -35,7 +38,7 @@ use Rattle.search.specs.declared.Ended.the-variants as ended
 use Rattle.search.specs.declared.Turn.{Turn}
 use Rattle.search.specs.declared.Turn.the-variants.{On, End}
 use Rattle.search.specs.GoalSlots.{firstDue, Behind}
-use Rattle.search.specs.Outcome.{EndsAs, Turned, keyAt, Least, Taking}
+use Rattle.search.specs.Outcome.{EndsAs, Turned, Least, Taking}
 use Rattle.search.proofs.GoalLaws.{due-behind}
 use Rattle.search.proofs.FirstGoal.{pathFound, goal-found}
 
@@ -58,12 +61,12 @@ module _ (S : System) (places : ℕ) (t : Table S) (k : ℕ) where
   turn-none e = rw (e, turns)
 
   module _ {o : Open} (e : leastOpen S t 0 ≡ some o) where
-    -- A turn ends the search where a goal has the least key.
-    turn-goal : {p : List ℕ} → firstGoal S t (o .key) t 0 ≡ some p → turns S places (suc k) t ≡ answered (plan (o .key .cost) p)
+    -- A turn ends the search where a goal has the least rank.
+    turn-goal : {p : List ℕ} → firstGoal S t (o .rank) t 0 ≡ some p → turns S places (suc k) t ≡ answered (plan (o .rank .cost) p)
     unfolding turns
     turn-goal f = rw (e, turns, f)
 
-    module _ (f : firstGoal S t (o .key) t 0 ≡ none) {r : Held S} (h : Holds t (o .slot) r) where
+    module _ (f : firstGoal S t (o .rank) t 0 ≡ none) {r : Held S} (h : Holds t (o .slot) r) where
       -- The search goes on after a slot that is cut.
       turn-cut-on : S .cut (r .hints) ≡ true → turns S places (suc k) t ≡ turns S places k (mark S t (o .slot))
       unfolding turns
@@ -89,13 +92,13 @@ expand-taken S places t r i (suc c) =
 -- ---- a job's table
 
 -- The slots in use fit into the table, and are chained.
-pub idle-room : {job : List ℕ} {places n : ℕ} {t : List ℕ} → Idle job places n t → n * 160 ≤ length t
+pub idle-room : {job : Query} {places n : ℕ} {t : List ℕ} → Idle job places n t → n * slotBytes ≤ length t
 idle-room d = omega (arith, d .1 .room, d .1 .used)
 
-pub idle-chained : {job : List ℕ} {places n : ℕ} {t : List ℕ} → Idle job places n t → Chained (held t n)
+pub idle-chained : {job : Query} {places n : ℕ} {t : List ℕ} → Idle job places n t → Chained (held t n)
 idle-chained {job} {places} {n} {t} d = chained job n t (d .2 .inv)
 
-module _ (job : List ℕ) (places n : ℕ) (t : List ℕ) where
+module _ (job : Query) (places n : ℕ) (t : List ℕ) where
   -- No slot is open: the refusal is the end.
   pub nothing-ends : {x : ℕ} → leastOpen (sys job) (heldIn job n t) 0 ≡ none → exhausted (sys job) (heldIn job n t) ≡ no-plan x → Turned job places n t t (End (ended.NoPlan x))
   nothing-ends e h = λ k. turn-none (sys job) places (heldIn job n t) k e ∙ ap answered h
@@ -120,21 +123,22 @@ module _ (job : List ℕ) (places n : ℕ) (t : List ℕ) where
     unfolding turns
     turns-over d = sym (ap (λ (x : ℕ). turns (sys job) places x (heldIn job n t)) (sym d) ∙ rest)
 
-module _ {job : List ℕ} {places n : ℕ} {t : List ℕ} (idle : Idle job places n t) {i : ℕ} (l : Least job n t i) (c s : ℕ) (ec : c ≡ slotAt t i .cost) (es : s ≡ slotAt t i .steps)
+module _ {job : Query} {places n : ℕ} {t : List ℕ} (idle : Idle job places n t) {i : ℕ} (l : Least job n t i) (c s : ℕ)
+    (ec : c ≡ slotAt t i .cost + slotAt t i .estimate) (es : s ≡ slotAt t i .steps)
     (f : Found) (found : f ≡ firstDue job c s (held t n) (held t n) 0) where
   abbrev S : System
   S = sys job
 
-  goals : firstGoal S (heldIn job n t) (keyAt t i) (heldIn job n t) 0 ≡ pathFound (held t n) s f
+  goals : firstGoal S (heldIn job n t) (rankAt (slotAt t i)) (heldIn job n t) 0 ≡ pathFound (held t n) s f
   goals = rw (found, ← ec, ← es) (goal-found job n t (idle-room idle) (idle .1 .sound) (idle .2 .inv) c s)
 
-  -- A goal has the least key: its slot is the answer's.
+  -- A goal has the least rank: its slot is the answer's.
   pub goal-ends : (g : ℕ) → f ≡ At g → Turned job places n t t (End (ended.Goal g n))
   goal-ends g e = λ k.
       let b : Behind (held t n) 0 c s (At g) = subst (Behind (held t n) 0 c s) (sym found ∙ e) (due-behind job c s (held t n) (length (held t n)) 0 (omega arith)) in
       let inside : g < n = omega (arith, length-first t n (idle-room idle)) in
       let p = goals ∙ ap (pathFound (held t n) s) e in
-      let cost : slotAt t i .cost ≡ slotAt t g .cost = sym ec ∙ sym (b .2) ∙ ap (λ (x : Slot). x .cost) (first-at t n g inside) in
+      let cost : slotAt t i .cost + slotAt t i .estimate ≡ slotAt t g .cost = sym ec ∙ sym (b .2) ∙ ap (λ (x : Slot). x .cost) (first-at t n g inside) in
       let steps : s ≡ stepsAt (held t n) g = sym (b .3) in
       (idle-room idle, idle-chained idle, inside, turn-goal S places (heldIn job n t) k (l .least) p ∙ (λ z. answered (plan (cost z) (slotPath (held t n) (steps z) g))))
 
@@ -143,7 +147,8 @@ module _ {job : List ℕ} {places n : ℕ} {t : List ℕ} (idle : Idle job place
   none-takes e = record { idle = idle; chosen = l; noGoal = goals ∙ ap (pathFound (held t n) s) e }
 
 -- Slot i is taken: the table is u then.
-module _ {job : List ℕ} {places n : ℕ} {t : List ℕ} {i : ℕ} (taking : Taking job places n t i) (u : List ℕ) (marked : slots u ≡ set (slots t) i (takenSlot (slotAt t i))) (size : length u ≡ length t) where
+module _ {job : Query} {places n : ℕ} {t : List ℕ} {i : ℕ} (taking : Taking job places n t i) (u : List ℕ)
+    (marked : slots u ≡ set (slots t) i (takenSlot (slotAt t i))) (size : length u ≡ length t) where
   abbrev T : Table (sys job)
   T = heldIn job n t
 
@@ -153,7 +158,7 @@ module _ {job : List ℕ} {places n : ℕ} {t : List ℕ} {i : ℕ} (taking : Ta
   abbrev inside : i < n
   inside = taking .chosen .inside
 
-  room : n * 160 ≤ length t
+  room : n * slotBytes ≤ length t
   room = idle-room (taking .idle)
 
   slot : Holds T i r
@@ -170,7 +175,7 @@ module _ {job : List ℕ} {places n : ℕ} {t : List ℕ} {i : ℕ} (taking : Ta
   -- After a slot that is cut the search goes on.
   pub cut-on : sys job .cut (r .hints) ≡ true → Turned job places n t u (On n)
   cut-on c =
-      let ready = turn-cut (sys job) places (taking .idle .2) (taking .chosen .least) slot (taking .noGoal) c .0 in (
+      let ready = turn-cut (sys job) places (taking .idle .2) (taking .chosen .least) slot (taking .noGoal) (sys-laws job) c .0 in (
         (taking .idle .0, running, subst (Ready (sys job) places (taking .idle .0)) (sym same) ready),
         λ k. turn-cut-on (sys job) places T k (taking .chosen .least) (taking .noGoal) slot c ∙ ap (turns (sys job) places k) (sym same),
       )
@@ -178,7 +183,8 @@ module _ {job : List ℕ} {places n : ℕ} {t : List ℕ} {i : ℕ} (taking : Ta
   -- A slot that is not cut is expanded.
   module _ (c : sys job .cut (r .hints) ≡ false) where
     expanding : Expanding (sys job) (taking .idle .0) (heldIn job n u) i (take-it (sys job) r) 0
-    expanding = subst (λ (v : Table (sys job)). Expanding (sys job) (taking .idle .0) v i (take-it (sys job) r) 0) (sym same) (turn-uncut (sys job) places (taking .idle .2) (taking .chosen .least) slot (taking .noGoal) c .0)
+    expanding = subst (λ (v : Table (sys job)). Expanding (sys job) (taking .idle .0) v i (take-it (sys job) r) 0) (sym same)
+        (turn-uncut (sys job) places (taking .idle .2) (taking .chosen .least) slot (taking .noGoal) (sys-laws job) c .0)
 
     now-taken : take-it (sys job) r ≡ heldIs job (slotAt u i)
     now-taken = holds-one (heldIn job n u) i (expanding .held) (held-at job n u i inside (omega (arith, room)))

@@ -4,19 +4,20 @@ use mathlib.Core.Option.{none, some}
 use mathlib.Core.List.{List}
 use Prim.Native.Nat.{ℕ, suc, _*_, _≤_, _<_}
 use lib.ListN.{length}
-use Rattle.model.specs.exploration.Key.{Key}
 use Rattle.model.specs.exploration.Equations.{plan, no-plan}
 use Rattle.model.specs.declared.Verdict.the-variants.{Fine}
 use Rattle.model.specs.job.Decoding.{jobVerdict}
-use Rattle.model.specs.job.Layout.{constraintCount, jobOf}
+use Rattle.model.specs.job.Layout.{constraintCount}
 use Rattle.model.specs.search.JobSystem.{startNode}
+use Rattle.model.specs.search.Query.{Query, jobFor}
+use Rattle.model.specs.calls.Search.{slotBytes}
 use Rattle.dijkstra.specs.Records.{leastOpen}
 use Rattle.dijkstra.specs.Search.{Result, answered, too-small, firstGoal, turns, startTable}
 use Rattle.table.specs.Slots.{slotAt}
-use Rattle.table.specs.Lookup.{keyOf}
-use Rattle.nodes.specs.Meaning.{nodeIs, Clean}
+use Rattle.table.specs.Lookup.{rankAt}
+use Rattle.nodes.specs.Meaning.{Clean}
 use Rattle.paths.specs.Chain.{held, stepsAt, slotPath, Chained}
-use Rattle.held.specs.Held.{sys, heldIn, SoundTo}
+use Rattle.held.specs.Held.{sys, nodeFor, heldIn, SoundTo}
 use Rattle.held.specs.Running.{Idle}
 use Rattle.search.specs.declared.Ended.{Ended}
 use Rattle.search.specs.declared.Ended.the-variants as ended
@@ -26,42 +27,38 @@ use Rattle.search.specs.declared.Turn.the-variants.{On, End}
 -- A table's bytes and what the code says of them are this result. A goal's path can be followed from slot to slot.
 abbrev pub EndsAs : List ℕ → Ended → Result → Type 0
 EndsAs t (ended.Goal g n) res =
-    (n * 160 ≤ length t) × Chained (held t n) × (g < n)
+    (n * slotBytes ≤ length t) × Chained (held t n) × (g < n)
     × (res ≡ answered (plan (slotAt t g .cost) (slotPath (held t n) (stepsAt (held t n) g) g)))
 EndsAs t (ended.NoPlan k) res = res ≡ answered (no-plan k)
 EndsAs t ended.Full res = res ≡ too-small
 
 -- One turn from a table t with n slots in use: it goes on with m in u, or it ends.
-abbrev pub Turned : List ℕ → ℕ → ℕ → List ℕ → List ℕ → Turn → Type 0
+abbrev pub Turned : Query → ℕ → ℕ → List ℕ → List ℕ → Turn → Type 0
 Turned job places n t u (On m) =
     Idle job places m u × ((k : ℕ) → turns (sys job) places (suc k) (heldIn job n t) ≡ turns (sys job) places k (heldIn job m u))
 Turned job places n t u (End e) = (k : ℕ) → EndsAs u e (turns (sys job) places (suc k) (heldIn job n t))
 
--- the key of slot i
-abbrev pub keyAt : List ℕ → ℕ → Key
-keyAt t i = keyOf (slotAt t i .cost) (slotAt t i .steps)
-
--- Slot i is the open one of the least key.
-pub record Least (job : List ℕ) (n : ℕ) (t : List ℕ) (i : ℕ) : Type 0 where
+-- Slot i is the open one of the least rank.
+pub record Least (job : Query) (n : ℕ) (t : List ℕ) (i : ℕ) : Type 0 where
   pub inside : i < n
-  pub least : leastOpen (sys job) (heldIn job n t) 0 ≡ some (record { slot = i; key = keyAt t i })
+  pub least : leastOpen (sys job) (heldIn job n t) 0 ≡ some (record { slot = i; rank = rankAt (slotAt t i) })
 
--- No goal has its key, so it is taken.
-pub record Taking (job : List ℕ) (places n : ℕ) (t : List ℕ) (i : ℕ) : Type 0 where
+-- No goal has its rank as its key, so it is taken.
+pub record Taking (job : Query) (places n : ℕ) (t : List ℕ) (i : ℕ) : Type 0 where
   pub idle : Idle job places n t
   pub chosen : Least job n t i
-  pub noGoal : firstGoal (sys job) (heldIn job n t) (keyAt t i) (heldIn job n t) 0 ≡ none
+  pub noGoal : firstGoal (sys job) (heldIn job n t) (rankAt (slotAt t i)) (heldIn job n t) 0 ≡ none
 
 -- A search of an accepted job can begin: its start node, of that array, is reached, and there is a slot for it.
-pub record Starts (job : List ℕ) (places : ℕ) (node t : List ℕ) : Type 0 where
-  pub accepted : jobVerdict job ≡ Fine
-  pub starts : startNode (jobOf job) ≡ some (nodeIs (constraintCount job) node)
-  pub clean : Clean (constraintCount job) node
+pub record Starts (job : Query) (places : ℕ) (node t : List ℕ) : Type 0 where
+  pub accepted : jobVerdict (job .bytes) ≡ Fine
+  pub starts : startNode (jobFor job) ≡ some (nodeFor job node)
+  pub clean : Clean (constraintCount (job .bytes)) node
   pub some-place : 0 < places
-  pub room : places * 160 ≤ length t
+  pub room : places * slotBytes ≤ length t
   pub most : places ≤ 65536
 
 -- The start node, of that array, is in slot 0.
-pub record Begun (job node after : List ℕ) : Type 0 where
-  pub begins : heldIn job 1 after ≡ startTable (sys job) (nodeIs (constraintCount job) node)
+pub record Begun (job : Query) (node after : List ℕ) : Type 0 where
+  pub begins : heldIn job 1 after ≡ startTable (sys job) (nodeFor job node)
   pub sound : SoundTo job 1 after

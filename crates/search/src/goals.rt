@@ -6,36 +6,37 @@ ghost use Prim.Native.Nat.{_+_, _*_, _≤_, _<_};
 ghost use lib.ListN.{length};
 ghost use Rattle.model.specs.declared.Verdict.the-variants.{Fine};
 ghost use Rattle.model.specs.job.Decoding.{jobVerdict};
+ghost use Rattle.model.specs.search.Query.{query};
+ghost use Rattle.model.specs.calls.Search.{slotBytes};
 ghost use Rattle.dijkstra.specs.Search.{someCutIn};
 ghost use Rattle.table.specs.Slots.{slotAt};
 ghost use Rattle.paths.specs.Chain.{held, Chained};
 ghost use Rattle.held.specs.Held.{sys, heldIs, heldIn};
 ghost use Rattle.search.specs.GoalSlots.{due, chosen, firstDue, Behind};
 
-// Whether the slot i is an uncut goal of a key. Most slots have another key, which two words tell.
+// Whether the slot i is an uncut goal of a key. Most slots are no goal, or have another key, which one word tells.
 fn is_due(job: &[u8], t: &[u8], i: usize, cost: u64, steps: u64) -> bool
-    requires { ⌜ (jobVerdict (now job) ≡ Fine) × (i * 160 + 160 ≤ length (now t)) ⌝ }
-    ensures { λ r. ⌜ r ≡ due (now (job .entry)) cost steps (slotAt (now (t .entry)) i) ⌝ }
+    requires { ⌜ (jobVerdict (now job) ≡ Fine) × (i * slotBytes + slotBytes ≤ length (now t)) ⌝ }
+    ensures { λ r. ⌜ r ≡ due (query (now (job .entry))) cost steps (slotAt (now (t .entry)) i) ⌝ }
 {
+    if !slots::is_goal(t, i) {
+        return false;
+    }
     if slots::cost(t, i) != cost {
         return false;
     }
     if slots::steps(t, i) != steps {
         return false;
     }
-    let slot = slots::load(t, i);
-    let hints = slot.hints;
-    if nodes::is_cut(job, hints) {
-        return false;
-    }
-    slot.goal
+    let hints = slots::load(t, i).hints;
+    !nodes::is_cut(job, hints)
 }
 
 // Of the slot i, if it is due, and the one found after it, the one whose path comes first.
 fn choose(job: &[u8], t: &[u8], n: usize, found: Found, i: usize, cost: u64, steps: u64) -> Found
-    requires { ⌜ (jobVerdict (now job) ≡ Fine) × (n * 160 ≤ length (now t)) × (i < n) × Chained (held (now t) n)
+    requires { ⌜ (jobVerdict (now job) ≡ Fine) × (n * slotBytes ≤ length (now t)) × (i < n) × Chained (held (now t) n)
         × Behind (held (now t) n) (i + 1) cost steps found ⌝ }
-    ensures { λ r. ⌜ r ≡ chosen (held (now (t .entry)) n) (due (now (job .entry)) cost steps (slotAt (now (t .entry)) i)) i found ⌝ }
+    ensures { λ r. ⌜ r ≡ chosen (held (now (t .entry)) n) (due (query (now (job .entry))) cost steps (slotAt (now (t .entry)) i)) i found ⌝ }
 {
     if !is_due(job, t, i, cost, steps) {
         return found;
@@ -54,8 +55,8 @@ fn choose(job: &[u8], t: &[u8], n: usize, found: Found, i: usize, cost: u64, ste
 
 // The uncut goal of a key whose path comes first, of n slots.
 pub fn first_goal(job: &[u8], t: &[u8], n: usize, cost: u64, steps: u64) -> Found
-    requires { ⌜ (jobVerdict (now job) ≡ Fine) × (n * 160 ≤ length (now t)) × Chained (held (now t) n) ⌝ }
-    ensures { λ r. ⌜ r ≡ firstDue (now (job .entry)) cost steps (held (now (t .entry)) n) (held (now (t .entry)) n) 0 ⌝ }
+    requires { ⌜ (jobVerdict (now job) ≡ Fine) × (n * slotBytes ≤ length (now t)) × Chained (held (now t) n) ⌝ }
+    ensures { λ r. ⌜ r ≡ firstDue (query (now (job .entry))) cost steps (held (now (t .entry)) n) (held (now (t .entry)) n) 0 ⌝ }
 {
     let mut found = Found::Nothing;
     let mut i = n;
@@ -68,8 +69,8 @@ pub fn first_goal(job: &[u8], t: &[u8], n: usize, cost: u64, steps: u64) -> Foun
 
 // Whether the node of the slot i is cut.
 pub fn slot_cut(job: &[u8], t: &[u8], i: usize) -> bool
-    requires { ⌜ (jobVerdict (now job) ≡ Fine) × (i * 160 + 160 ≤ length (now t)) ⌝ }
-    ensures { λ r. ⌜ r ≡ sys (now (job .entry)) .cut (heldIs (now (job .entry)) (slotAt (now (t .entry)) i) .hints) ⌝ }
+    requires { ⌜ (jobVerdict (now job) ≡ Fine) × (i * slotBytes + slotBytes ≤ length (now t)) ⌝ }
+    ensures { λ r. ⌜ r ≡ sys (query (now (job .entry))) .cut (heldIs (query (now (job .entry))) (slotAt (now (t .entry)) i) .hints) ⌝ }
 {
     let hints = slots::load(t, i).hints;
     nodes::is_cut(job, hints)
@@ -77,8 +78,8 @@ pub fn slot_cut(job: &[u8], t: &[u8], i: usize) -> bool
 
 // Whether any of n slots is cut.
 pub fn some_cut(job: &[u8], t: &[u8], n: usize) -> bool
-    requires { ⌜ (jobVerdict (now job) ≡ Fine) × (n * 160 ≤ length (now t)) ⌝ }
-    ensures { λ r. ⌜ r ≡ someCutIn (sys (now (job .entry))) (heldIn (now (job .entry)) n (now (t .entry))) ⌝ }
+    requires { ⌜ (jobVerdict (now job) ≡ Fine) × (n * slotBytes ≤ length (now t)) ⌝ }
+    ensures { λ r. ⌜ r ≡ someCutIn (sys (query (now (job .entry)))) (heldIn (query (now (job .entry))) n (now (t .entry))) ⌝ }
 {
     let mut i = 0;
     while i < n {

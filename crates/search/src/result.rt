@@ -8,8 +8,9 @@ ghost use mathlib.Core.Path.{_≡_};
 ghost use Prim.Native.Nat.{_*_, _≤_, _<_};
 ghost use lib.ListN.{length};
 ghost use Rattle.model.specs.declared.Verdict.the-variants.{Fine};
-ghost use Rattle.model.specs.calls.Search.{searchEnd, slotsIn, cleared};
+ghost use Rattle.model.specs.calls.Search.{searchEnd, slotsIn, cleared, slotBytes};
 ghost use Rattle.model.specs.job.Decoding.{jobVerdict};
+ghost use Rattle.model.specs.search.Query.{query};
 ghost use Rattle.dijkstra.specs.Search.{searchIn};
 ghost use Rattle.table.specs.Slots.{slotAt};
 ghost use Rattle.paths.specs.Chain.{held, stepsAt, slotPath, Chained};
@@ -18,7 +19,7 @@ ghost use Rattle.search.specs.Given.{endOf, HandsOver};
 
 // Writes the path of slot g to the plan buffer, unless that is shorter.
 fn hand_over(t: &[u8], n: usize, g: usize, plan: &mut [u8]) -> Searched
-    requires { ⌜ (n * 160 ≤ length (now t)) × Chained (held (now t) n) × (g < n) ⌝ }
+    requires { ⌜ (n * slotBytes ≤ length (now t)) × Chained (held (now t) n) × (g < n) ⌝ }
     ensures { λ r. ⌜ HandsOver (slotAt (now (t .entry)) g .cost) (slotPath (held (now (t .entry)) n) (stepsAt (held (now (t .entry)) n) g) g)
         (now (plan .entry)) r (now (plan .exit)) ⌝ }
 {
@@ -37,7 +38,7 @@ fn hand_over(t: &[u8], n: usize, g: usize, plan: &mut [u8]) -> Searched
 pub fn answer(job: &[u8], table: &mut [u8], plan: &mut [u8]) -> Searched
     requires { ⌜ jobVerdict (now job) ≡ Fine ⌝ }
     ensures { λ r. ⌜ searchEnd r (cleared (now (table .entry))) (now (plan .exit))
-        ≡ endOf (searchIn (sys (now (job .entry))) (slotsIn (now (table .entry)))) (now (table .entry)) (now (plan .entry)) ⌝ }
+        ≡ endOf (searchIn (sys (query (now (job .entry)))) (slotsIn (now (table .entry)))) (now (table .entry)) (now (plan .entry)) ⌝ }
 {
     match start::searched(job, table) {
         Ended::Goal(g, n) => hand_over(table, n, g, plan),

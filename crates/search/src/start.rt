@@ -1,6 +1,7 @@
 // The start of the search: the start node in slot 0, if it is reached and there is a slot.
 use super::Ended;
 use super::turns;
+use model::NODE;
 use table::Slot;
 use table::slots;
 use task::Key;
@@ -8,19 +9,20 @@ ghost use mathlib.Core.Path.{_≡_};
 ghost use Prim.Native.Nat.{_≤_};
 ghost use lib.ListN.{length};
 ghost use Rattle.model.specs.declared.Verdict.the-variants.{Fine};
-ghost use Rattle.model.specs.calls.Search.{slotsIn};
+ghost use Rattle.model.specs.calls.Search.{slotsIn, slotBytes};
 ghost use Rattle.model.specs.job.Layout.{constraintCount};
 ghost use Rattle.model.specs.job.Decoding.{jobVerdict};
+ghost use Rattle.model.specs.search.Query.{query};
 ghost use Rattle.dijkstra.specs.Search.{searchIn};
 ghost use Rattle.nodes.specs.Meaning.{Clean};
 ghost use Rattle.held.specs.Held.{sys};
 ghost use Rattle.progression.specs.Workspace.{Workspace};
 ghost use Rattle.search.specs.Outcome.{EndsAs, Starts, Begun};
 
-// Writes the start node, which has no parent, to slot 0.
-fn begin(job: &[u8], work: &mut [u64], t: &mut [u8], node: [u64; 9])
-    requires { ⌜ (jobVerdict (now job) ≡ Fine) × Clean (constraintCount (now job)) node × (160 ≤ length (now t)) × Workspace (now job) (now work) ⌝ }
-    ensures { λ _. ⌜ Begun (now (job .entry)) node (now (t .exit)) × Workspace (now (job .entry)) (now (work .exit)) ⌝ }
+// Writes the start node, which has no parent, to slot 0; for now every estimate is 0.
+fn begin(job: &[u8], work: &mut [u64], t: &mut [u8], node: [u64; NODE])
+    requires { ⌜ (jobVerdict (now job) ≡ Fine) × Clean (constraintCount (now job)) node × (slotBytes ≤ length (now t)) × Workspace (now job) (now work) ⌝ }
+    ensures { λ _. ⌜ Begun (query (now (job .entry))) node (now (t .exit)) × Workspace (now (job .entry)) (now (work .exit)) ⌝ }
 {
     let hints = nodes::start_hints(job);
     let goal = nodes::is_goal(job, work, node);
@@ -33,6 +35,7 @@ fn begin(job: &[u8], work: &mut [u64], t: &mut [u8], node: [u64; 9])
             hints,
             cost: key.cost,
             steps: key.steps,
+            estimate: 0,
             parent: 0,
             action: 0,
             taken: false,
@@ -42,18 +45,18 @@ fn begin(job: &[u8], work: &mut [u64], t: &mut [u8], node: [u64; 9])
 }
 
 // The search from the start node, in a table of so many places.
-fn from_start(job: &[u8], work: &mut [u64], t: &mut [u8], places: usize, node: [u64; 9]) -> Ended
-    requires { ⌜ Starts (now job) places node (now t) × Workspace (now job) (now work) ⌝ }
-    ensures { λ r. ⌜ EndsAs (now (t .exit)) r (searchIn (sys (now (job .entry))) places) ⌝ }
+fn from_start(job: &[u8], work: &mut [u64], t: &mut [u8], places: usize, node: [u64; NODE]) -> Ended
+    requires { ⌜ Starts (query (now job)) places node (now t) × Workspace (now job) (now work) ⌝ }
+    ensures { λ r. ⌜ EndsAs (now (t .exit)) r (searchIn (sys (query (now (job .entry)))) places) ⌝ }
 {
     begin(job, work, t, node);
     turns::run(job, work, t, places)
 }
 
 // The same in a workspace of its own, which has a memo where that pays.
-fn in_workspace(job: &[u8], t: &mut [u8], places: usize, node: [u64; 9]) -> Ended
-    requires { ⌜ Starts (now job) places node (now t) ⌝ }
-    ensures { λ r. ⌜ EndsAs (now (t .exit)) r (searchIn (sys (now (job .entry))) places) ⌝ }
+fn in_workspace(job: &[u8], t: &mut [u8], places: usize, node: [u64; NODE]) -> Ended
+    requires { ⌜ Starts (query (now job)) places node (now t) ⌝ }
+    ensures { λ r. ⌜ EndsAs (now (t .exit)) r (searchIn (sys (query (now (job .entry)))) places) ⌝ }
 {
     if progression::pays(job, places) {
         let mut work = [0u64; progression::WORDS];
@@ -67,7 +70,7 @@ fn in_workspace(job: &[u8], t: &mut [u8], places: usize, node: [u64; 9]) -> Ende
 // The search in a table, whatever its bytes are.
 pub fn searched(job: &[u8], t: &mut [u8]) -> Ended
     requires { ⌜ jobVerdict (now job) ≡ Fine ⌝ }
-    ensures { λ r. ⌜ EndsAs (now (t .exit)) r (searchIn (sys (now (job .entry))) (slotsIn (now (t .entry)))) ⌝ }
+    ensures { λ r. ⌜ EndsAs (now (t .exit)) r (searchIn (sys (query (now (job .entry)))) (slotsIn (now (t .entry)))) ⌝ }
 {
     let first = nodes::start(job);
     if !first.alive {

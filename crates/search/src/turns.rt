@@ -1,4 +1,4 @@
-// The turns of the search. Each takes the open slot of the least key, until a goal has that key or no slot is open.
+// The turns of the search. Each takes the open slot of the least rank, until a goal has that rank as its key or no slot is open.
 use super::Ended;
 use super::Turn;
 use super::goals;
@@ -12,6 +12,8 @@ ghost use lib.ListN.{length};
 ghost use Rattle.model.specs.declared.Verdict.the-variants.{Fine};
 ghost use Rattle.model.specs.exploration.Equations.{no-plan};
 ghost use Rattle.model.specs.job.Decoding.{jobVerdict};
+ghost use Rattle.model.specs.search.Query.{query};
+ghost use Rattle.model.specs.calls.Search.{slotBytes};
 ghost use Rattle.progression.specs.Workspace.{Workspace};
 ghost use Rattle.dijkstra.specs.Search.{exhausted, turns};
 ghost use Rattle.held.specs.Held.{sys, heldIn};
@@ -20,16 +22,16 @@ ghost use Rattle.search.specs.Outcome.{EndsAs, Turned, Least, Taking};
 
 // The refusal where no slot is open: 11 if some node was cut, else 12.
 fn refusal(job: &[u8], t: &[u8], n: usize) -> u8
-    requires { ⌜ (jobVerdict (now job) ≡ Fine) × (n * 160 ≤ length (now t)) ⌝ }
-    ensures { λ r. ⌜ exhausted (sys (now (job .entry))) (heldIn (now (job .entry)) n (now (t .entry))) ≡ no-plan r ⌝ }
+    requires { ⌜ (jobVerdict (now job) ≡ Fine) × (n * slotBytes ≤ length (now t)) ⌝ }
+    ensures { λ r. ⌜ exhausted (sys (query (now (job .entry)))) (heldIn (query (now (job .entry))) n (now (t .entry))) ≡ no-plan r ⌝ }
 {
     if goals::some_cut(job, t, n) { 11 } else { 12 }
 }
 
 // Takes the slot i, and follows its actions unless it is cut.
 fn take(job: &[u8], work: &mut [u64], t: &mut [u8], n: usize, places: usize, i: usize) -> Turn
-    requires { ⌜ Taking (now job) places n (now t) i × Workspace (now job) (now work) ⌝ }
-    ensures { λ r. ⌜ Turned (now (job .entry)) places n (now (t .entry)) (now (t .exit)) r × Workspace (now (job .entry)) (now (work .exit)) ⌝ }
+    requires { ⌜ Taking (query (now job)) places n (now t) i × Workspace (now job) (now work) ⌝ }
+    ensures { λ r. ⌜ Turned (query (now (job .entry))) places n (now (t .entry)) (now (t .exit)) r × Workspace (now (job .entry)) (now (work .exit)) ⌝ }
 {
     let cut = goals::slot_cut(job, t, i);
     slots::mark(t, i);
@@ -42,12 +44,12 @@ fn take(job: &[u8], work: &mut [u64], t: &mut [u8], n: usize, places: usize, i: 
     }
 }
 
-// A turn at the slot i, the open one of the least key.
+// A turn at the slot i, the open one of the least rank; the estimate of a goal is 0, so its key is its rank.
 fn turn_at(job: &[u8], work: &mut [u64], t: &mut [u8], n: usize, places: usize, i: usize) -> Turn
-    requires { ⌜ Idle (now job) places n (now t) × Least (now job) n (now t) i × Workspace (now job) (now work) ⌝ }
-    ensures { λ r. ⌜ Turned (now (job .entry)) places n (now (t .entry)) (now (t .exit)) r × Workspace (now (job .entry)) (now (work .exit)) ⌝ }
+    requires { ⌜ Idle (query (now job)) places n (now t) × Least (query (now job)) n (now t) i × Workspace (now job) (now work) ⌝ }
+    ensures { λ r. ⌜ Turned (query (now (job .entry))) places n (now (t .entry)) (now (t .exit)) r × Workspace (now (job .entry)) (now (work .exit)) ⌝ }
 {
-    let cost = slots::cost(t, i);
+    let cost = lookup::estimated_cost(t, i);
     let steps = slots::steps(t, i);
     match goals::first_goal(job, t, n, cost, steps) {
         Found::At(g) => Turn::End(Ended::Goal(g, n)),
@@ -57,8 +59,8 @@ fn turn_at(job: &[u8], work: &mut [u64], t: &mut [u8], n: usize, places: usize, 
 
 // One turn.
 fn turn(job: &[u8], work: &mut [u64], t: &mut [u8], n: usize, places: usize) -> Turn
-    requires { ⌜ Idle (now job) places n (now t) × Workspace (now job) (now work) ⌝ }
-    ensures { λ r. ⌜ Turned (now (job .entry)) places n (now (t .entry)) (now (t .exit)) r × Workspace (now (job .entry)) (now (work .exit)) ⌝ }
+    requires { ⌜ Idle (query (now job)) places n (now t) × Workspace (now job) (now work) ⌝ }
+    ensures { λ r. ⌜ Turned (query (now (job .entry))) places n (now (t .entry)) (now (t .exit)) r × Workspace (now (job .entry)) (now (work .exit)) ⌝ }
 {
     match lookup::least(t, n) {
         Found::At(i) => turn_at(job, work, t, n, places, i),
@@ -68,8 +70,9 @@ fn turn(job: &[u8], work: &mut [u64], t: &mut [u8], n: usize, places: usize) -> 
 
 // All turns, from a table with the start node in slot 0. Each takes one slot, so one turn more than there are places is enough.
 pub fn run(job: &[u8], work: &mut [u64], t: &mut [u8], places: usize) -> Ended
-    requires { ⌜ Idle (now job) places 1 (now t) × Workspace (now job) (now work) ⌝ }
-    ensures { λ r. ⌜ EndsAs (now (t .exit)) r (turns (sys (now (job .entry))) places (suc places) (heldIn (now (job .entry)) 1 (now (t .entry)))) ⌝ }
+    requires { ⌜ Idle (query (now job)) places 1 (now t) × Workspace (now job) (now work) ⌝ }
+    ensures { λ r. ⌜ EndsAs (now (t .exit)) r
+        (turns (sys (query (now (job .entry)))) places (suc places) (heldIn (query (now (job .entry))) 1 (now (t .entry)))) ⌝ }
 {
     let mut n = 1;
     let mut left = places + 1;

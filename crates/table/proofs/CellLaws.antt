@@ -11,10 +11,11 @@ use lib.ListN.{length, getD, set, drop}
 use lib.Seq.{sets, length-sets, drop-set-lt, drop-set-add, drop-cons, set-at, append-snoc, ext-getD}
 use Rattle.model.specs.Bits.{number, numberAt}
 use Rattle.model.specs.job.Job.{listOf}
+use Rattle.model.specs.calls.Search.{slotBytes}
 use Rattle.model.proofs.job.VerdictLaws.{getD-listOf, length-listOf}
 use Rattle.words.specs.Digits.{digits}
 use Rattle.words.specs.Laws.{number-written, length-digits}
-use Rattle.table.specs.Cells.{word, withWord, withWords, row, RowSet}
+use Rattle.table.specs.Cells.{word, withWord, withWords, row, RowSet, rowWords}
 
 -- ---- a list given by its elements
 
@@ -119,27 +120,28 @@ words-same l a k (suc n) j b h f =
 -- ---- rows
 
 -- Rows are equal if their words are.
-pub row-words : (l t : List ℕ) (i : ℕ) → ((j : ℕ) → j < 20 → word t (i * 20 + j) ≡ word l (i * 20 + j)) → row t i ≡ row l i
+pub row-words : (l t : List ℕ) (i : ℕ) → ((j : ℕ) → j < rowWords → word t (i * rowWords + j) ≡ word l (i * rowWords + j)) → row t i ≡ row l i
 unfolding row
-row-words l t i h = listOf-same (λ j. word t (i * 20 + j)) (λ j. word l (i * 20 + j)) 20 h
+row-words l t i h = listOf-same (λ j. word t (i * rowWords + j)) (λ j. word l (i * rowWords + j)) rowWords h
 
 -- A word of a row.
-pub row-at : (l : List ℕ) (i j : ℕ) → j < 20 → getD (row l i) j 0 ≡ word l (i * 20 + j)
+pub row-at : (l : List ℕ) (i j : ℕ) → j < rowWords → getD (row l i) j 0 ≡ word l (i * rowWords + j)
 unfolding row
-row-at l i j h = getD-listOf (λ k. word l (i * 20 + k)) 20 j 0 h
+row-at l i j h = getD-listOf (λ k. word l (i * rowWords + k)) rowWords j 0 h
 
 -- Twenty words written are a row, and no other row is changed.
-pub row-set : (l t a : List ℕ) (i : ℕ) → t ≡ withWords l (i * 20) a 20 → length a ≡ 20 → ((j : ℕ) → j < 20 → getD a j 0 < 2 ^ 64) → i * 160 + 160 ≤ length l → RowSet l t i a
+pub row-set : (l t a : List ℕ) (i : ℕ) → t ≡ withWords l (i * rowWords) a rowWords → length a ≡ rowWords → ((j : ℕ) → j < rowWords → getD a j 0 < 2 ^ 64)
+    → i * slotBytes + slotBytes ≤ length l → RowSet l t i a
 unfolding row
 row-set l t a i q e b h = rw q (here, other)
   where
     u : List ℕ
-    u = withWords l (i * 20) a 20
+    u = withWords l (i * rowWords) a rowWords
 
     here : row u i ≡ a
     here =
-        listOf-same (λ j. word u (i * 20 + j)) (λ j. getD a j 0) 20 (λ j g. words-same l a (i * 20) 20 j (b j g) g (omega arith))
-        ∙ listOf-elements a 20 e
+        listOf-same (λ j. word u (i * rowWords + j)) (λ j. getD a j 0) rowWords (λ j g. words-same l a (i * rowWords) rowWords j (b j g) g (omega arith))
+        ∙ listOf-elements a rowWords e
 
     other : (m : ℕ) → m ≢ i → row u m ≡ row l m
-    other m d = row-words l u m (λ j h. words-other l a (i * 20) 20 (m * 20 + j) (λ k g. omega arith))
+    other m d = row-words l u m (λ j h. words-other l a (i * rowWords) rowWords (m * rowWords + j) (λ k g. omega arith))

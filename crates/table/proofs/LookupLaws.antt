@@ -10,15 +10,16 @@ use lib.Seq.{drop-cons, getD-take, length-take-le}
 use borrow.Author.Tests.{eq-eqb, ne-eqb}
 use Rattle.model.specs.logic.Formula.{choose}
 use Rattle.model.specs.exploration.Key.{less}
-use Rattle.model.specs.search.Node.{sameNumbers}
+use Rattle.model.specs.search.Node.{sameNumbers, nodeWords}
+use Rattle.model.specs.calls.Search.{slotBytes}
 use Rattle.table.specs.declared.Slot.{Slot}
 use Rattle.table.specs.declared.Found.{Found}
 use Rattle.table.specs.declared.Found.the-variants.{At, Nothing}
 use Rattle.table.specs.declared.Best.{Best}
 use Rattle.table.specs.declared.Best.the-variants.{Open, NoOpen}
-use Rattle.table.specs.Cells.{word}
+use Rattle.table.specs.Cells.{word, rowWords}
 use Rattle.table.specs.Slots.{slots, slotAt, noSlot}
-use Rattle.table.specs.Lookup.{findIn, keyOf, better, leastIn, slotOfBest}
+use Rattle.table.specs.Lookup.{findIn, keyOf, rankAt, better, leastIn, slotOfBest}
 use Rattle.table.proofs.SlotLaws.{length-slots, length-node, node-word}
 
 -- ---- two lists of numbers, compared from the front
@@ -39,26 +40,26 @@ same-end a b j ha hb = rw (drop-of-length-le a ha, drop-of-length-le b hb)
 
 -- ---- the node of slot i against a, word by word; the first j agree
 
-module _ (l a : List ℕ) (i : ℕ) (h : i * 160 + 160 ≤ length l) (e : length a ≡ 9) where
+module _ (l a : List ℕ) (i : ℕ) (h : i * slotBytes + slotBytes ≤ length l) (e : length a ≡ nodeWords) where
   abbrev Same : ℕ → Type 0
   Same j = sameNumbers a (slotAt l i .node) ≡ sameNumbers (drop j a) (drop j (slotAt l i .node))
 
-  pub node-on : (j w : ℕ) → Same j → w ≡ word l (i * 20 + j) → getD a j 0 ≡ w → j < 9 → Same (j + 1)
+  pub node-on : (j w : ℕ) → Same j → w ≡ word l (i * rowWords + j) → getD a j 0 ≡ w → j < nodeWords → Same (j + 1)
   node-on j w s q d g =
       s ∙ same-on a (slotAt l i .node) j (d ∙ q ∙ sym (node-word l i j g h)) (omega arith) (omega (arith, length-node l i h))
 
-  pub node-not : (j w : ℕ) → Same j → w ≡ word l (i * 20 + j) → (getD a j 0 ≡ w → ⊥) → j < 9 → false ≡ sameNumbers a (slotAt l i .node)
+  pub node-not : (j w : ℕ) → Same j → w ≡ word l (i * rowWords + j) → (getD a j 0 ≡ w → ⊥) → j < nodeWords → false ≡ sameNumbers a (slotAt l i .node)
   node-not j w s q d g =
       sym
       (s
       ∙ same-not a (slotAt l i .node) j (λ x. d (x ∙ node-word l i j g h ∙ sym q)) (omega arith) (omega (arith, length-node l i h)))
 
-  pub node-end : (j : ℕ) → Same j → j ≡ 9 → true ≡ sameNumbers a (slotAt l i .node)
+  pub node-end : (j : ℕ) → Same j → j ≡ nodeWords → true ≡ sameNumbers a (slotAt l i .node)
   node-end j s d = sym (s ∙ same-end a (slotAt l i .node) j (omega arith) (omega (arith, length-node l i h)))
 
 -- ---- the first n slots: how many, and which
 
-pub length-first : (l : List ℕ) (n : ℕ) → n * 160 ≤ length l → length (take n (slots l)) ≡ n
+pub length-first : (l : List ℕ) (n : ℕ) → n * slotBytes ≤ length l → length (take n (slots l)) ≡ n
 length-first l n h = length-take-le n (slots l) (omega (arith, length-slots l))
 
 pub first-at : (l : List ℕ) (n i : ℕ) → i < n → getD (take n (slots l)) i noSlot ≡ slotAt l i
@@ -89,7 +90,7 @@ unfolding better
 better-taken s k NoOpen q = rw (← q)
 better-taken s k (Open i c n) q = rw (← q)
 
-module _ (s : Slot) (k : ℕ) (b : Best) (q : false ≡ s .taken) (x y : ℕ) (ex : x ≡ s .cost) (ey : y ≡ s .steps) where
+module _ (s : Slot) (k : ℕ) (b : Best) (q : false ≡ s .taken) (x y : ℕ) (ex : x ≡ s .cost + s .estimate) (ey : y ≡ s .steps) where
   pub better-first : b ≡ NoOpen → Open k x y ≡ better s k b
   unfolding better
   better-first e = rw (e, ← q, ex, ey)
@@ -139,12 +140,12 @@ better-below : (s : Slot) (k n : ℕ) (b : Best) → k < n → Below n (slotOfBe
 unfolding better slotOfBest
 better-below s k n NoOpen g h = go (s .taken)
   where
-    go : (t : Bool) → Below n (slotOfBest (choose t NoOpen (Open k (s .cost) (s .steps))))
+    go : (t : Bool) → Below n (slotOfBest (choose t NoOpen (Open k (s .cost + s .estimate) (s .steps))))
     go true = tt
     go false = g
-better-below s k n (Open i c m) g h = go (s .taken) (less (keyOf c m) (keyOf (s .cost) (s .steps)))
+better-below s k n (Open i c m) g h = go (s .taken) (less (keyOf c m) (rankAt s))
   where
-    go : (t l : Bool) → Below n (slotOfBest (choose t (Open i c m) (choose l (Open i c m) (Open k (s .cost) (s .steps)))))
+    go : (t l : Bool) → Below n (slotOfBest (choose t (Open i c m) (choose l (Open i c m) (Open k (s .cost + s .estimate) (s .steps)))))
     go true l = h
     go false true = h
     go false false = g

@@ -1,5 +1,6 @@
 -- Laws of a slot as a row of twenty words.
 use mathlib.Core.Path.{_≡_}
+use mathlib.Core.Logic.{_≢_}
 use mathlib.Core.Bool.{Bool, true, false}
 use mathlib.Core.List.{List}
 use Prim.Native.Nat.{ℕ, _+_, _*_, _/_, _%_, _<_}
@@ -8,8 +9,10 @@ use lib.ListN.{length, getD}
 use lib.Dec.{eqb}
 use Rattle.model.specs.Bits.{digit}
 use Rattle.model.specs.job.Job.{listOf}
+use Rattle.model.specs.search.Node.{nodeWords}
 use Rattle.table.specs.declared.Slot.{Slot}
 use Rattle.table.specs.Slots.{slotOf, rowOf, keyWord, flagWord, takenSlot, Narrow}
+use Rattle.table.specs.Cells.{rowWords}
 use Rattle.table.proofs.CellLaws.{listOf-elements, listOf-same}
 
 -- ---- the parts of word 18: action, taken and goal are read as they were written
@@ -59,23 +62,25 @@ mark-goal w = let e : markWord w / 512 ≡ w / 512 % 2 = omega arith in rw e (om
 -- ---- whole rows
 
 -- A slot's row gives the slot again.
-pub slot-again : (s : Slot) (r : List ℕ) (k f : ℕ) → r ≡ rowOf (s .node) (s .hints) k f → k ≡ keyWord (s .cost) (s .steps) (s .parent)
-    → f ≡ flagWord (s .action) (s .taken) (s .goal) → length (s .node) ≡ 9 → length (s .hints) ≡ 8 → Narrow s → slotOf r ≡ s
+pub slot-again : (s : Slot) (r : List ℕ) (k f : ℕ) → r ≡ rowOf (s .node) (s .hints) k f (s .estimate) → k ≡ keyWord (s .cost) (s .steps) (s .parent)
+    → f ≡ flagWord (s .action) (s .taken) (s .goal) → length (s .node) ≡ nodeWords → length (s .hints) ≡ 8 → Narrow s → slotOf r ≡ s
 unfolding slotOf rowOf listOf
 slot-again s r k f q ek ef en eh w =
-    let ec : keyWord (s .cost) (s .steps) (s .parent) % 4294967296 ≡ s .cost = omega arith in
-    let es = key-steps (s .cost) (s .steps) (s .parent) (w .0) (w .1) in
-    let ep = key-parent (s .cost) (s .steps) (s .parent) (w .0) (w .1) (w .2) in
-    let ea = flag-action (s .action) (s .taken) (s .goal) (w .3) in
-    let et = flag-taken (s .action) (s .taken) (s .goal) (w .3) in
-    let eg = flag-goal (s .action) (s .taken) (s .goal) (w .3) in
-    rw (q, ek, ef) (rw (listOf-elements (s .node) 9 en, listOf-elements (s .hints) 8 eh, ec, es, ep, ea, et, eg))
+    let ec : keyWord (s .cost) (s .steps) (s .parent) % 4294967296 ≡ s .cost = omega (arith, w .cost) in
+    let es = key-steps (s .cost) (s .steps) (s .parent) (w .cost) (w .steps) in
+    let ep = key-parent (s .cost) (s .steps) (s .parent) (w .cost) (w .steps) (w .parent) in
+    let ea = flag-action (s .action) (s .taken) (s .goal) (w .action) in
+    let et = flag-taken (s .action) (s .taken) (s .goal) (w .action) in
+    let eg = flag-goal (s .action) (s .taken) (s .goal) (w .action) in
+    let ee : s .estimate % 1073741824 ≡ s .estimate = omega (arith, w .estimate) in
+    rw (q, ek, ef) (rw (listOf-elements (s .node) nodeWords en, listOf-elements (s .hints) 8 eh, ec, es, ee, ep, ea, et, eg))
 
 -- A row whose word 18 alone is changed so is that of the slot, taken.
-pub slot-marked : (l t : List ℕ) → ((j : ℕ) → j < 18 → getD t j 0 ≡ getD l j 0) → getD t 18 0 ≡ markWord (getD l 18 0) → slotOf t ≡ takenSlot (slotOf l)
+pub slot-marked : (l t : List ℕ) → ((j : ℕ) → j < rowWords → j ≢ 18 → getD t j 0 ≡ getD l j 0) → getD t 18 0 ≡ markWord (getD l 18 0)
+    → slotOf t ≡ takenSlot (slotOf l)
 unfolding slotOf takenSlot
 slot-marked l t h e =
     let a : markWord (getD l 18 0) % 256 ≡ getD l 18 0 % 256 = omega arith in
-    let n = listOf-same (λ j. getD t j 0) (λ j. getD l j 0) 9 (λ j g. h j (omega arith)) in
-    let k = listOf-same (λ j. getD t (9 + j) 0) (λ j. getD l (9 + j) 0) 8 (λ j g. h (9 + j) (omega arith)) in
-    rw (n, k, h 17 (omega arith), e, a, mark-taken (getD l 18 0), mark-goal (getD l 18 0))
+    let n = listOf-same (λ j. getD t j 0) (λ j. getD l j 0) nodeWords (λ j g. h j (omega arith) (omega arith)) in
+    let k = listOf-same (λ j. getD t (nodeWords + j) 0) (λ j. getD l (nodeWords + j) 0) 8 (λ j g. h (nodeWords + j) (omega arith) (omega arith)) in
+    rw (n, k, h 17 (omega arith) (omega arith), h 19 (omega arith) (omega arith), e, a, mark-taken (getD l 18 0), mark-goal (getD l 18 0))

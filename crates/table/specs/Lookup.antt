@@ -1,7 +1,7 @@
--- The slot of a node, and the open slot of the least key, in a list of slots.
+-- The slot of a node, and the open slot of the least rank, in a list of slots.
 use mathlib.Core.Bool.{true, false}
 use mathlib.Core.List.{List, [], _∷_}
-use Prim.Native.Nat.{ℕ, suc}
+use Prim.Native.Nat.{ℕ, suc, _+_}
 use Rattle.model.specs.logic.Formula.{choose}
 use Rattle.model.specs.exploration.Key.{Key, less}
 use Rattle.model.specs.search.Node.{sameNumbers}
@@ -19,13 +19,17 @@ findIn n (s ∷ ss) k = elim (sameNumbers n (s .node)) [ true ↦ At k | false �
 abbrev pub keyOf : ℕ → ℕ → Key
 keyOf c s = record { cost = c; steps = s }
 
--- the better of slot k and the best of those after it: slot k, unless it was taken or that one has a lesser key
-unfoldable pub better : Slot → ℕ → Best → Best
-better s k NoOpen = choose (s .taken) NoOpen (Open k (s .cost) (s .steps))
-better s k (Open i c n) =
-    choose (s .taken) (Open i c n) (choose (less (keyOf c n) (keyOf (s .cost) (s .steps))) (Open i c n) (Open k (s .cost) (s .steps)))
+-- the rank of a slot: cost plus estimate, then steps
+abbrev pub rankAt : Slot → Key
+rankAt s = keyOf (s .cost + s .estimate) (s .steps)
 
--- the first open slot of the least key with its cost and steps, the slots being numbered from k on
+-- the better of slot k and the best of those after it: slot k, unless it was taken or that one has a lesser rank
+unfoldable pub better : Slot → ℕ → Best → Best
+better s k NoOpen = choose (s .taken) NoOpen (Open k (s .cost + s .estimate) (s .steps))
+better s k (Open i c n) =
+    choose (s .taken) (Open i c n) (choose (less (keyOf c n) (rankAt s)) (Open i c n) (Open k (s .cost + s .estimate) (s .steps)))
+
+-- the first open slot of the least rank with that rank, the slots being numbered from k on
 unfoldable pub leastIn : List Slot → ℕ → Best
 unfolding better
 leastIn [] k = NoOpen

@@ -1,11 +1,15 @@
-// Words of 64 bits in bytes, and rows of twenty of them.
+// Words of 64 bits in bytes, and rows of them.
 ghost use mathlib.Core.Path.{_≡_};
 ghost use Prim.Native.Nat.{_+_, _*_, _^_, _≤_, _<_};
 ghost use lib.ListN.{length};
+ghost use Rattle.model.specs.calls.Search.{slotBytes};
 ghost use Rattle.table.specs.Cells.{word, withWord, row, RowSet};
 
+// The bytes of a slot, which is a row.
+pub const SLOT: usize = 160;
+
 // The words of a row.
-pub const ROW: usize = 20;
+pub const ROW: usize = SLOT / 8;
 
 // The word k.
 pub fn get(t: &[u8], k: usize) -> u64
@@ -23,9 +27,9 @@ pub fn put(t: &mut [u8], k: usize, v: u64)
     words::put64(t, k * 8, v);
 }
 
-// The twenty words of row i.
+// The words of row i.
 pub fn get_row(t: &[u8], i: usize) -> [u64; ROW]
-    requires { ⌜ i * 160 + 160 ≤ length (now t) ⌝ }
+    requires { ⌜ i * slotBytes + slotBytes ≤ length (now t) ⌝ }
     ensures { λ r. ⌜ r ≡ row (now (t .entry)) i ⌝ }
 {
     let mut a = [0u64; ROW];
@@ -37,9 +41,9 @@ pub fn get_row(t: &[u8], i: usize) -> [u64; ROW]
     a
 }
 
-// Writes the twenty words of row i.
+// Writes the words of row i.
 pub fn put_row(t: &mut [u8], i: usize, a: [u64; ROW])
-    requires { ⌜ i * 160 + 160 ≤ length (now t) ⌝ }
+    requires { ⌜ i * slotBytes + slotBytes ≤ length (now t) ⌝ }
     ensures { λ _. ⌜ RowSet (now (t .entry)) (now (t .exit)) i a ⌝ }
 {
     let mut j = 0;

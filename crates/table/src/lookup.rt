@@ -1,25 +1,27 @@
-// Slots looked up: the slot of a node, and the open slot of the least key.
+// Slots looked up: the slot of a node, and the open slot of the least rank.
 use super::Best;
 use super::Found;
 use super::cells;
 use super::cells::ROW;
 use super::slots;
+use model::NODE;
 use task::Key;
 ghost use mathlib.Core.Path.{_≡_};
 ghost use Prim.Native.Nat.{_+_, _*_, _≤_};
 ghost use lib.ListN.{length, take};
 ghost use Rattle.model.specs.exploration.Key.{less};
 ghost use Rattle.model.specs.search.Node.{sameNumbers};
+ghost use Rattle.model.specs.calls.Search.{slotBytes};
 ghost use Rattle.table.specs.Slots.{slots, slotAt};
 ghost use Rattle.table.specs.Lookup.{findIn, better, leastIn, slotOfBest, keyOf};
 
 // Whether the slot i is that of a node, all words compared.
-fn same_words(t: &[u8], i: usize, node: [u64; 9]) -> bool
-    requires { ⌜ i * 160 + 160 ≤ length (now t) ⌝ }
+fn same_words(t: &[u8], i: usize, node: [u64; NODE]) -> bool
+    requires { ⌜ i * slotBytes + slotBytes ≤ length (now t) ⌝ }
     ensures { λ r. ⌜ r ≡ sameNumbers node (slotAt (now (t .entry)) i .node) ⌝ }
 {
     let mut j = 0;
-    while j < 9 {
+    while j < NODE {
         if node[j] != cells::get(t, i * ROW + j) {
             return false;
         }
@@ -29,8 +31,8 @@ fn same_words(t: &[u8], i: usize, node: [u64; 9]) -> bool
 }
 
 // Whether the slot i is that of a node: most differ in the first word.
-fn is_node(t: &[u8], i: usize, node: [u64; 9]) -> bool
-    requires { ⌜ i * 160 + 160 ≤ length (now t) ⌝ }
+fn is_node(t: &[u8], i: usize, node: [u64; NODE]) -> bool
+    requires { ⌜ i * slotBytes + slotBytes ≤ length (now t) ⌝ }
     ensures { λ r. ⌜ r ≡ sameNumbers node (slotAt (now (t .entry)) i .node) ⌝ }
 {
     if node[0] != cells::get(t, i * ROW) {
@@ -40,8 +42,8 @@ fn is_node(t: &[u8], i: usize, node: [u64; 9]) -> bool
 }
 
 // The first of n slots that is that of a node.
-pub fn find(t: &[u8], n: usize, node: [u64; 9]) -> Found
-    requires { ⌜ n * 160 ≤ length (now t) ⌝ }
+pub fn find(t: &[u8], n: usize, node: [u64; NODE]) -> Found
+    requires { ⌜ n * slotBytes ≤ length (now t) ⌝ }
     ensures { λ r. ⌜ r ≡ findIn node (take n (slots (now (t .entry)))) 0 ⌝ }
 {
     let mut i = 0;
@@ -65,15 +67,25 @@ fn is_less(cost: u64, steps: u64, cost2: u64, steps2: u64) -> bool
     })
 }
 
-// The better of the slot i and the best after it; of equal keys the first.
+// The cost of the slot i plus its estimate.
+pub fn estimated_cost(t: &[u8], i: usize) -> u64
+    requires { ⌜ i * slotBytes + slotBytes ≤ length (now t) ⌝ }
+    ensures { λ r. ⌜ r ≡ slotAt (now (t .entry)) i .cost + slotAt (now (t .entry)) i .estimate ⌝ }
+{
+    let cost = slots::cost(t, i);
+    let estimate = slots::estimate(t, i);
+    cost + estimate
+}
+
+// The better of the slot i and the best after it; of equal ranks the first.
 fn choose(t: &[u8], best: Best, i: usize) -> Best
-    requires { ⌜ i * 160 + 160 ≤ length (now t) ⌝ }
+    requires { ⌜ i * slotBytes + slotBytes ≤ length (now t) ⌝ }
     ensures { λ r. ⌜ r ≡ better (slotAt (now (t .entry)) i) i best ⌝ }
 {
     if slots::is_taken(t, i) {
         return best;
     }
-    let cost = slots::cost(t, i);
+    let cost = estimated_cost(t, i);
     let steps = slots::steps(t, i);
     match best {
         Best::NoOpen => Best::Open(i, cost, steps),
@@ -97,9 +109,9 @@ fn slot_of(best: Best) -> Found
     }
 }
 
-// The first open slot of the least key, of n slots.
+// The first open slot of the least rank, of n slots.
 pub fn least(t: &[u8], n: usize) -> Found
-    requires { ⌜ n * 160 ≤ length (now t) ⌝ }
+    requires { ⌜ n * slotBytes ≤ length (now t) ⌝ }
     ensures { λ r. ⌜ r ≡ slotOfBest (leastIn (take n (slots (now (t .entry)))) 0) ⌝ }
 {
     let mut best = Best::NoOpen;

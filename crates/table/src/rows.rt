@@ -1,10 +1,12 @@
-// A slot as a row of twenty words: 0 to 8 the node, 9 to 16 the hints, 17 cost, steps and parent, 18 action, taken and goal, 19 spare.
+// A slot as a row of twenty words: 0 to 8 the node, 9 to 16 the hints, 17 cost, steps and parent, 18 action, taken and goal, 19 the estimate.
 use super::Slot;
 use super::cells::ROW;
+use model::NODE;
 ghost use mathlib.Core.Path.{_≡_};
 ghost use Prim.Native.Nat.{_<_};
 ghost use lib.ListN.{length};
 ghost use Rattle.model.specs.Bits.{digit};
+ghost use Rattle.model.specs.search.Node.{nodeWords};
 ghost use Rattle.table.specs.Slots.{slotOf, rowOf, keyWord, flagWord, Narrow};
 
 // Word 17 is the cost and the steps and the parent, so many times.
@@ -17,6 +19,9 @@ pub const TAKEN: u64 = 256;
 
 pub const GOAL: u64 = 512;
 
+// Word 19 has the estimate in its lowest 30 bits.
+pub const ESTIMATE: u64 = 1073741824;
+
 // The slot of a row.
 pub fn unpack(a: [u64; ROW]) -> Slot
     ensures { λ r. ⌜ r ≡ slotOf a ⌝ }
@@ -26,6 +31,7 @@ pub fn unpack(a: [u64; ROW]) -> Slot
         hints: [a[9], a[10], a[11], a[12], a[13], a[14], a[15], a[16]],
         cost: a[17] % STEPS,
         steps: a[17] / STEPS % 65536,
+        estimate: a[19] % ESTIMATE,
         parent: a[17] / PARENT % 65536,
         action: a[18] % TAKEN,
         taken: a[18] / TAKEN % 2 == 1,
@@ -57,8 +63,8 @@ fn flag_word(action: u64, taken: bool, goal: bool) -> u64
 }
 
 // A row of its parts, which have the lengths that their types say.
-fn line(node: [u64; 9], hints: [u64; 8], key: u64, flags: u64) -> [u64; ROW]
-    ensures { λ r. ⌜ (r ≡ rowOf node hints key flags) × (length node ≡ 9) × (length hints ≡ 8) ⌝ }
+fn line(node: [u64; NODE], hints: [u64; 8], key: u64, flags: u64, estimate: u64) -> [u64; ROW]
+    ensures { λ r. ⌜ (r ≡ rowOf node hints key flags estimate) × (length node ≡ nodeWords) × (length hints ≡ 8) ⌝ }
 {
     [
         node[0],
@@ -80,7 +86,7 @@ fn line(node: [u64; 9], hints: [u64; 8], key: u64, flags: u64) -> [u64; ROW]
         hints[7],
         key,
         flags,
-        0,
+        estimate,
     ]
 }
 
@@ -93,5 +99,5 @@ pub fn pack(s: Slot) -> [u64; ROW]
     let hints = s.hints;
     let key = key_word(s.cost, s.steps, s.parent);
     let flags = flag_word(s.action, s.taken, s.goal);
-    line(node, hints, key, flags)
+    line(node, hints, key, flags, s.estimate)
 }

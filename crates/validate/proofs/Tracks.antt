@@ -7,7 +7,7 @@ use lib.ListN.{length, take, getD}
 use lib.Seq.{length-take-le, getD-take}
 use Rattle.model.specs.declared.Constant.the-variants.{True}
 use Rattle.model.specs.logic.Formula.{Formula, constant}
-use Rattle.model.specs.logic.Parts.{partsOf}
+use Rattle.model.specs.logic.Parts.{mostParts, partsOf}
 use Rattle.model.specs.logic.Truth.{World, holds}
 use Rattle.model.specs.logic.Progression.{residual, progressed, residualHolds, closing}
 use Rattle.model.specs.job.Job.{Job, actionOf}
@@ -25,31 +25,31 @@ use Rattle.validate.proofs.Walks.{tracked, leftBy}
 
 -- ---- one formula, before the worlds of a step list, of which there is always one
 
-module _ (j : Job) (φ : Formula) (few : length (partsOf φ) ≤ 6) (w : World) (s : ℕ) where
-  residual-on : (p : List ℕ) → residualHolds (partsOf φ) (residual 6 φ w) (worldsAfter j s p) ≡ holds φ (w ∷ worldsAfter j s p)
+module _ (j : Job) (φ : Formula) (few : length (partsOf φ) ≤ mostParts) (w : World) (s : ℕ) where
+  residual-on : (p : List ℕ) → residualHolds (partsOf φ) (residual mostParts φ w) (worldsAfter j s p) ≡ holds φ (w ∷ worldsAfter j s p)
   unfolding worldsAfter
-  residual-on [] = residual-right 6 φ few w _ []
-  residual-on (a ∷ p) = residual-right 6 φ few w _ (worldsAfter j (after (actionOf j a) s) p)
+  residual-on [] = residual-right mostParts φ few w _ []
+  residual-on (a ∷ p) = residual-right mostParts φ few w _ (worldsAfter j (after (actionOf j a) s) p)
 
   progressed-on : (p : List ℕ) (r : ℕ)
-      → residualHolds (partsOf φ) (progressed 6 (partsOf φ) r w) (worldsAfter j s p) ≡ residualHolds (partsOf φ) r (w ∷ worldsAfter j s p)
+      → residualHolds (partsOf φ) (progressed mostParts (partsOf φ) r w) (worldsAfter j s p) ≡ residualHolds (partsOf φ) r (w ∷ worldsAfter j s p)
   unfolding worldsAfter
-  progressed-on [] r = progressed-right 6 φ few r w _ []
-  progressed-on (a ∷ p) r = progressed-right 6 φ few r w _ (worldsAfter j (after (actionOf j a) s) p)
+  progressed-on [] r = progressed-right mostParts φ few r w _ []
+  progressed-on (a ∷ p) r = progressed-right mostParts φ few r w _ (worldsAfter j (after (actionOf j a) s) p)
 
 -- ---- one of several formulas
 
 abbrev formula : List Formula → ℕ → Formula
 formula φs i = getD φs i (constant True)
 
-getD-residuals : (φs : List Formula) (w : World) (i : ℕ) → i < length φs → getD (residuals φs w) i 0 ≡ residual 6 (formula φs i) w
+getD-residuals : (φs : List Formula) (w : World) (i : ℕ) → i < length φs → getD (residuals φs w) i 0 ≡ residual mostParts (formula φs i) w
 unfolding residuals
 getD-residuals [] w i l = absurd (omega arith)
 getD-residuals (φ ∷ φs) w zero l = refl
 getD-residuals (φ ∷ φs) w (suc i) l = getD-residuals φs w i (omega arith)
 
 getD-progressedAll : (φs : List Formula) (rs : List ℕ) (w : World) (i : ℕ) → length rs ≡ length φs → i < length φs
-    → getD (progressedAll φs rs w) i 0 ≡ progressed 6 (partsOf (formula φs i)) (getD rs i 0) w
+    → getD (progressedAll φs rs w) i 0 ≡ progressed mostParts (partsOf (formula φs i)) (getD rs i 0) w
 unfolding progressedAll
 getD-progressedAll [] rs w i e l = absurd (omega arith)
 getD-progressedAll (φ ∷ φs) [] w i e l = absurd (omega arith)
@@ -66,16 +66,16 @@ module _ (j : Job) (φs : List Formula) (few : FewParts φs) (short : length φs
     unfolding carried
     carried-full = length-padded (progressedAll φs (take (length φs) rs) w) (omega (arith, length-progressedAll φs (take (length φs) rs) w entries))
 
-    carried-at : (i : ℕ) → i < length φs → getD (carried φs rs w) i 0 ≡ progressed 6 (partsOf (formula φs i)) (getD rs i 0) w
+    carried-at : (i : ℕ) → i < length φs → getD (carried φs rs w) i 0 ≡ progressed mostParts (partsOf (formula φs i)) (getD rs i 0) w
     unfolding carried
     carried-at i l =
         getD-padded (progressedAll φs (take (length φs) rs) w) i (omega (arith, length-progressedAll φs (take (length φs) rs) w entries))
         ∙ getD-progressedAll φs (take (length φs) rs) w i entries l
-        ∙ ap (λ (r : ℕ). progressed 6 (partsOf (formula φs i)) r w) (getD-take (length φs) rs i 0 l)
+        ∙ ap (λ (r : ℕ). progressed mostParts (partsOf (formula φs i)) r w) (getD-take (length φs) rs i 0 l)
 
   module _ (i : ℕ) (l : i < length φs) where
-    few-at : length (partsOf (formula φs i)) ≤ 6
-    few-at = all-getD (λ φ. length (partsOf φ) ≤ 6) (constant True) φs few i l
+    few-at : length (partsOf (formula φs i)) ≤ mostParts
+    few-at = all-getD (λ φ. length (partsOf φ) ≤ mostParts) (constant True) φs few i l
 
     -- What is left after steps is true of the closing world exactly if what was left before is true of the steps' worlds.
     tracked-right : (p : List ℕ) (s : ℕ) (rs : List ℕ) → length rs ≡ 8

@@ -2,10 +2,11 @@
 use mathlib.Core.Path.{_≡_, sym, ap}
 use Prim.Native.Nat.{ℕ, _^_, _<_}
 use native.Mathlib.Omega.{arith}
+use Rattle.model.specs.logic.Parts.{mostParts}
 use Rattle.bits.proofs.apart.Statement.{statement}
 use Rattle.bits.proofs.apart.Tie as tie
 
-distance : (j i : ℕ) → i ≡ j → j < 6 → 2 ^ j < 64 → (2 ^ j ≡ 2 ^ i) × (2 ^ j < 64)
+distance : (j i : ℕ) → i ≡ j → j < mostParts → 2 ^ j < 64 → (2 ^ j ≡ 2 ^ i) × (2 ^ j < 64)
 distance j i e h l = (ap (λ (x : ℕ). 2 ^ x) (sym e), l)
 
 returns : tie.Need-returns

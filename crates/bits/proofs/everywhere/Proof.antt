@@ -2,12 +2,13 @@
 use mathlib.Core.Path.{_≡_, refl, sym, ap, _∙_}
 use mathlib.Core.Bool.{Bool, true, false}
 use Prim.Native.Nat.{ℕ}
+use Rattle.model.specs.logic.Parts.{mostParts}
 use Rattle.bits.specs.Tables.{everywhere}
 use Rattle.bits.proofs.everywhere.Statement.{statement}
 use Rattle.bits.proofs.everywhere.Tie as tie
 
-same : (d : Bool) (r : ℕ) → r ≡ everywhere 6 d → (b : Bool) → b ≡ d → r ≡ everywhere 6 b
-same d r t b e = t ∙ ap (everywhere 6) (sym e)
+same : (d : Bool) (r : ℕ) → r ≡ everywhere mostParts d → (b : Bool) → b ≡ d → r ≡ everywhere mostParts b
+same d r t b e = t ∙ ap (everywhere mostParts) (sym e)
 
 returns : tie.Need-returns
 unfolding everywhere

@@ -3,6 +3,7 @@ use mathlib.Core.Path.{_≡_, refl, sym, ap, _∙_}
 use Prim.Native.Nat.{ℕ, _≤_}
 use native.Mathlib.Omega.{arith}
 use mathlib.Core.Bool.{false}
+use Rattle.model.specs.logic.Parts.{mostParts}
 use Rattle.model.specs.Bits.{bit, ofBits}
 use Rattle.model.proofs.bits.Bits.{ofBits-cong}
 use Rattle.bits.specs.Tables.{unknown}
@@ -10,15 +11,15 @@ use Rattle.bits.proofs.BitLaws.{bit-high}
 use Rattle.bits.proofs.unknown.Statement.{statement}
 use Rattle.bits.proofs.unknown.Tie as tie
 
-table : (j r : ℕ) → r ≡ unknown 6 j → (i : ℕ) → i ≡ j → r ≡ unknown 6 i
-table j r t i e = t ∙ ap (unknown 6) (sym e)
+table : (j r : ℕ) → r ≡ unknown mostParts j → (i : ℕ) → i ≡ j → r ≡ unknown mostParts i
+table j r t i e = t ∙ ap (unknown mostParts) (sym e)
 
 -- an unknown past the six is false at every setting
-past : (i : ℕ) → 6 ≤ i → 0 ≡ unknown 6 i
+past : (i : ℕ) → mostParts ≤ i → 0 ≡ unknown mostParts i
 unfolding unknown ofBits
-past i h = ofBits-cong 64 (λ k. false) (λ k. bit k i) (λ k l. sym (bit-high 6 k i l h))
+past i h = ofBits-cong 64 (λ k. false) (λ k. bit k i) (λ k l. sym (bit-high mostParts k i l h))
 
-six : (i : ℕ) → (((((Unit {0} × (i ≡ 0 → ⊥)) × (i ≡ 1 → ⊥)) × (i ≡ 2 → ⊥)) × (i ≡ 3 → ⊥)) × (i ≡ 4 → ⊥)) × (i ≡ 5 → ⊥) → 6 ≤ i
+six : (i : ℕ) → (((((Unit {0} × (i ≡ 0 → ⊥)) × (i ≡ 1 → ⊥)) × (i ≡ 2 → ⊥)) × (i ≡ 3 → ⊥)) × (i ≡ 4 → ⊥)) × (i ≡ 5 → ⊥) → mostParts ≤ i
 six i h = omega arith
 
 returns : tie.Need-returns

@@ -4,6 +4,7 @@ use Rattle.model.specs.job.Job.{actionOf}
 use Rattle.model.specs.job.Layout.{actionCount, constraintCount, jobOf}
 use Rattle.model.specs.search.Node.{Node}
 use Rattle.model.specs.task.State.{applicable}
+use Rattle.model.specs.search.Query.{query}
 use mathlib.Core.Path.{_≡_, refl, sym}
 use mathlib.Core.Bool.{false}
 use mathlib.Core.List.{List}
@@ -23,7 +24,7 @@ use Rattle.expansion.proofs.expand.Tie as tie
 
 abbrev Inv-loop : tie.InvT-loop
 Inv-loop job work₀ t₀ n places i from count choices₀ held₀ a₀ work t choices held a =
-    Going job places n t₀ i from held t a × (length t ≡ length t₀) × (length work ≡ length work₀) × Workspace job work × (choices ≡ choices₀ / 2 ^ a)
+    Going (query job) places n t₀ i from held t a × (length t ≡ length t₀) × (length work ≡ length work₀) × Workspace job work × (choices ≡ choices₀ / 2 ^ a)
 
 abbrev μ-loop : tie.MeasureT-loop
 μ-loop job work₀ t₀ n places i from count choices₀ held₀ a₀ work t choices held a = count - a
@@ -114,7 +115,7 @@ module _ (c : tie.In-loop Inv-loop μ-loop) where
   -- what holds after the action, of the slots in use, the table and the workspace
   abbrev After : ℕ → List ℕ → List ℕ → Type 0
   After m t work = let s = start d .args in
-      Going job (s .places) (s .n) (s .t .now) (s .i) (d .load .result) m t (l .loop .a + 1) × (length t ≡ length (s .t .now))
+      Going (query job) (s .places) (s .n) (s .t .now) (s .i) (d .load .result) m t (l .loop .a + 1) × (length t ≡ length (s .t .now))
       × (length work ≡ length (s .work .now)) × Workspace job work
 
 follow-requires : tie.Need-follow-requires Inv-loop μ-loop

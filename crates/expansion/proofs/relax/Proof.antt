@@ -3,6 +3,7 @@ use mathlib.Core.Path.{_≡_, refl, sym, _∙_, subst}
 use mathlib.Core.Bool.{false}
 use native.Mathlib.Omega.{arith}
 use borrow.Author.Needs.{needs}
+use Rattle.model.specs.search.Query.{query}
 use Rattle.table.specs.Slots.{slotAt}
 use Rattle.held.specs.Held.{Sound}
 use Rattle.expansion.proofs.Arrival.{bytes-slot, extends-open, sound-slot}
@@ -111,7 +112,7 @@ replaced-requires c κs =
       extends-open x (s .args .j) (isOpen d) (s .pre .1),
       omega (arith, x .running .used, x .running .most, x .inside),
       k .key-of .ensures,
-      subst (Sound (s .args .job .now)) (sym (d .load .ensures .0)) (sound-slot x (s .args .j) (s .pre .1)),
+      subst (Sound (query (s .args .job .now))) (sym (d .load .ensures .0)) (sound-slot x (s .args .j) (s .pre .1)),
       s .pre .2,
     )
 

@@ -3,17 +3,17 @@ use native.Mathlib.Omega.{arith}
 use mathlib.Core.Path.{_≡_, refl, sym, _∙_}
 use Prim.Native.Nat.{_≤_, _-_}
 use lib.ListN.{drop}
-use Rattle.model.specs.search.Node.{sameNumbers}
+use Rattle.model.specs.search.Node.{sameNumbers, nodeWords}
 use Rattle.table.proofs.LookupLaws.{same-on, same-not, same-end}
 use borrow.Author.Needs.{needs}
 use Rattle.expansion.proofs.same_node.Statement.{statement}
 use Rattle.expansion.proofs.same_node.Tie as tie
 
 abbrev Inv-loop : tie.InvT-loop
-Inv-loop a b j₀ j = (sameNumbers a b ≡ sameNumbers (drop j a) (drop j b)) × (j ≤ 9)
+Inv-loop a b j₀ j = (sameNumbers a b ≡ sameNumbers (drop j a) (drop j b)) × (j ≤ nodeWords)
 
 abbrev μ-loop : tie.MeasureT-loop
-μ-loop a b j₀ j = 9 - j
+μ-loop a b j₀ j = nodeWords - j
 
 loop-holds : tie.Need-loop-holds Inv-loop μ-loop
 loop-holds c = (refl, omega arith)

@@ -4,7 +4,7 @@ use Prim.Native.Nat.{ℕ, _≤_}
 use native.Mathlib.Omega.{arith}
 use lib.ListN.{length}
 use borrow.Author.Needs.{needs}
-use borrow.Author.Tests.{lt-ltb, le-ltb}
+use borrow.Author.Tests.{lt-ltb, le-ltb, lt-leb, le-leb}
 use Rattle.model.specs.logic.Reading.{section}
 use Rattle.model.specs.job.Decoding.{formulaVerdict}
 use Rattle.formula.specs.declared.Extent.{Extent}
@@ -55,11 +55,11 @@ returns c =
     let d : Ended = c .before .before .before in
     c .refused2 .ensures ∙ simp (lt-ltb _ _ (c .before .if1 .taken)) at (decided (d .before .before) (answered d) (d .n .given .1))
 
--- fewer than seven parts
+-- no more parts than may be
 returns-2 : tie.Need-returns-2
 returns-2 c =
     let d : Ended = c .before .before .before .before in
-    simp (le-ltb _ _ (c .before .before .if1 .left), lt-ltb _ _ (c .if2 .taken)) at (decided (d .before .before) (answered d) (d .n .given .1))
+    simp (le-ltb _ _ (c .before .before .if1 .left), le-leb _ _ (c .if2 .taken)) at (decided (d .before .before) (answered d) (d .n .given .1))
 
 -- the seventh part's offset fits
 add-refused-3 : tie.Need-add-refused-3
@@ -78,7 +78,8 @@ returns-4 : tie.Need-returns-4
 returns-4 c =
     let d : Ended = c .before .before .before .before .before .before in
     c .refused3 .ensures
-    ∙ simp (le-ltb _ _ (c .before .before .before .before .if1 .left), le-ltb _ _ (c .before .before .if2 .left)) at (decided (d .before .before) (answered d) (d .n .given .1))
+    ∙ simp (le-ltb _ _ (c .before .before .before .before .if1 .left), lt-leb _ _ (c .before .before .if2 .left))
+    at (decided (d .before .before) (answered d) (d .n .given .1))
 
 pub check-spec : {M : Type 1} → statement M
 check-spec =

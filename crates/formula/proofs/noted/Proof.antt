@@ -14,4 +14,4 @@ returns-3 : tie.Need-returns-3
 returns-3 c = simp (le-ltb _ _ (c .before .if1 .left), ne-eqb _ _ (c .if2 .left))
 
 pub noted-spec : {M : Type 1} → statement M
-noted-spec = tie.close (tie.spec (λ c. search needs) returns returns-2 returns-3)
+noted-spec = tie.close (tie.spec (λ c. search needs) returns (λ c. search needs) returns-2 returns-3)

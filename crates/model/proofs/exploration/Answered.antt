@@ -1,5 +1,5 @@
 -- `solve` gives the answer of the equations, and the answer of any solution of them is the one that `solve` gives.
-use mathlib.Core.Path.{_≡_, refl, sym, ap, _∙_}
+use mathlib.Core.Path.{_≡_, refl, sym, ap, _∙_, subst}
 use Prim.Native.Nat.{ℕ, _≤_}
 use native.Mathlib.Omega.{arith}
 use mathlib.Core.Bool.{true}
@@ -7,10 +7,10 @@ use mathlib.Core.List.{List, map, Memᴰ·map, Memᴰ·cast}
 use mathlib.Core.Logic.{_⊎_, inl, inr}
 use lib.ListN.{length, length-map}
 use Rattle.model.specs.exploration.Key.{Key, Le, Lt}
-use Rattle.model.specs.exploration.System.{System}
+use Rattle.model.specs.exploration.System.{System, rankOf}
 use Rattle.model.specs.exploration.Equations.{Bound, unbounded, Within, Answer, plan, Entries, Explores, Uncut, Plan, NoGoal, Answers, with-plan, some-cut, none-cut}
 use Rattle.model.specs.exploration.Explore.{Entry, Of, reached, solve}
-use Rattle.model.proofs.exploration.KeyLaws.{lt-le, le-antisym, lt-or-le, first-antisym}
+use Rattle.model.proofs.exploration.KeyLaws.{le-refl, le-trans, lt-le, le-antisym, lt-or-le, rank-zero, first-antisym}
 use Rattle.model.proofs.exploration.Laws.{Laws, Finite}
 use Rattle.model.proofs.exploration.Each.{All, all-map}
 use Rattle.model.proofs.exploration.Counting.{Apart, apart-length}
@@ -45,15 +45,25 @@ module _ (S : System) where
   answers-unique (none-cut n c) (some-cut m d) = absurd (c d)
   answers-unique (none-cut n c) (none-cut m d) = refl
 
-  -- ---- sets that agree up to a key have the same plans up to it
+  -- ---- sets that agree up to a rank have the same plans up to it
 
-  module _ (B : Bound) (L M : Entries S) (to : (n : S .Node) (k : Key) (h : S .Hints) → Within B k → L n k h → M n k h)
-      (back : (n : S .Node) (k : Key) (h : S .Hints) → Within B k → M n k h → L n k h) {c : ℕ} {p : List ℕ} (x : Plan S L c p) (w : Within B (x .key)) where
+  module _ (laws : Laws S) (B : Bound) (L M : Entries S) (to : (n : S .Node) (k : Key) (h : S .Hints) → Within B (rankOf S n k) → L n k h → M n k h)
+      (back : (n : S .Node) (k : Key) (h : S .Hints) → Within B (rankOf S n k) → M n k h → L n k h) {c : ℕ}
+      {p : List ℕ} (x : Plan S L c p) (w : Within B (x .key)) where
+    -- At a goal the rank is the key.
+    goal-le : (n : S .Node) → S .goal n ≡ true → Le (rankOf S n (x .key)) (x .key)
+    goal-le n g = subst (λ (z : Key). Le z (x .key)) (sym (rank-zero (x .key) (S .estimate n) (laws .at-goal n g))) (le-refl (x .key))
+
     same-least : {n : S .Node} {k : Key} → Uncut S M n k → S .goal n ≡ true → Le (x .key) k
     same-least {n} {k} u g = go (lt-or-le k (x .key))
       where
         go : Lt k (x .key) ⊎ Le (x .key) k → Le (x .key) k
-        go (inl l) = x .least (u .0, back n k (u .0) (within-below B k (x .key) (lt-le _ _ l) w) (u .1), u .2) g
+        go (inl l) = x .least (
+          u .0,
+          back n k (u .0)
+              (within-below B _ _ (subst (λ (z : Key). Le z (x .key)) (sym (rank-zero k (S .estimate n) (laws .at-goal n g))) (lt-le _ _ l)) w) (u .1),
+          u .2,
+        ) g
         go (inr l) = l
 
     same-plan : Plan S M c p
@@ -61,14 +71,14 @@ module _ (S : System) where
       node = x .node;
       key = x .key;
       costIs = x .costIs;
-      path = path-map S L M (λ j le n h. to n j h (within-below B j (x .key) le w)) (x .path);
+      path = path-map S laws L M (λ j n le h. to n j h (within-below B _ _ (le-trans _ _ _ le (goal-le (x .node) (x .goal))) w)) (x .path);
       goal = x .goal;
       least = same-least;
-      first = λ r g. x .first (path-map S M L (λ j le n h. back n j h (within-below B j (x .key) le w)) r) g;
+      first = λ {q} {n} r g. x .first (path-map S laws M L (λ j m le h. back m j h (within-below B _ _ (le-trans _ _ _ le (goal-le n g)) w)) r) g;
     }
 
-  -- A solution is one up to any key.
-  weaken : (B : Bound) {L : Entries S} → Explores S unbounded L → Explores S B L
+  -- A solution is one up to any rank.
+  pub weaken : (B : Bound) {L : Entries S} → Explores S unbounded L → Explores S B L
   weaken B x = record {
     start = x .start;
     complete = λ w a. x .complete tt a;
@@ -85,11 +95,11 @@ module _ (S : System) where
     unfolding solve
     solve-answers = answer-answers S (reached S) (reached-path S laws fin) (reached-first S laws fin)
 
-    -- A plan that is found in a solution up to a key is the answer.
+    -- A plan that is found in a solution up to a rank is the answer.
     pub plan-is : (B : Bound) (L : Entries S) → Explores S B L → {c : ℕ} {p : List ℕ} (x : Plan S L c p) → Within B (x .key) → solve S ≡ plan c p
     plan-is B L e x w =
         let r = weaken B (reached-solves S laws fin) in
-        answers-unique solve-answers (with-plan (same-plan B L (Of S (reached S)) (unique S laws B L _ e r) (unique S laws B _ L r e) x w))
+        answers-unique solve-answers (with-plan (same-plan laws B L (Of S (reached S)) (unique S laws B L _ e r) (unique S laws B _ L r e) x w))
 
     module _ (L : Entries S) (e : Explores S unbounded L) where
       to : (n : S .Node) (k : Key) (h : S .Hints) → L n k h → Of S (reached S) n k h

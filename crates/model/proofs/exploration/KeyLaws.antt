@@ -1,6 +1,6 @@
--- The order of keys, induction by keys, and the order of action sequences of equal length.
+-- The order of keys and of ranks, induction by keys, and the order of action sequences of equal length.
 use mathlib.Core.Path.{_≡_, refl, sym, ap, _∙_, subst}
-use Prim.Native.Nat.{ℕ, zero, suc, _<_}
+use Prim.Native.Nat.{ℕ, zero, suc, _+_, _≤_, _<_}
 use native.Mathlib.Omega.{arith}
 use native.Mathlib.Decide.{decLt}
 use mathlib.Core.Bool.{Bool, true, false, true≢false}
@@ -9,7 +9,7 @@ use mathlib.Core.Logic.{_⊎_, inl, inr, _↔_}
 use lib.ListN.{length}
 use lib.Dec.{eqb, ltb}
 use borrow.Author.Tests.{ltb-true, ltb-false, eqb-true, eqb-false, lt-ltb, le-ltb, eq-eqb}
-use Rattle.model.specs.exploration.Key.{Key, zeroKey, extend, Le, Lt, less, sameKey, earlier, firstOf, First}
+use Rattle.model.specs.exploration.Key.{Key, zeroKey, extend, rank, Le, Lt, less, sameKey, earlier, firstOf, First}
 
 -- ---- the order of keys
 
@@ -57,6 +57,30 @@ extend-mono j k c h = (omega arith, λ e. omega (arith, h .1 (omega arith)))
 pub extend-not-zero : (k : Key) (c : ℕ) → extend k c ≡ zeroKey → ⊥
 unfolding extend zeroKey
 extend-not-zero k c e = let s : suc (k .steps) ≡ 0 = ap (λ (x : Key). x .steps) e in omega arith
+
+-- ---- ranks
+
+-- An action makes the rank larger, if the estimate falls by no more than its cost.
+pub rank-step : (k : Key) (c e f : ℕ) → e ≤ c + f → Lt (rank k e) (rank (extend k c) f)
+unfolding extend
+rank-step k c e f h = (omega arith, λ d. omega arith)
+
+-- At one node ranks compare as keys do.
+pub rank-le : (j k : Key) (e : ℕ) → Le j k → Le (rank j e) (rank k e)
+rank-le j k e h = (omega arith, λ d. omega (arith, h .1 (omega arith)))
+
+pub rank-lt : (j k : Key) (e : ℕ) → Lt j k → Lt (rank j e) (rank k e)
+rank-lt j k e h = (omega arith, λ d. omega (arith, h .1 (omega arith)))
+
+pub unrank-lt : (j k : Key) (e : ℕ) → Lt (rank j e) (rank k e) → Lt j k
+unrank-lt j k e h = (omega arith, λ d. omega (arith, h .1 (omega arith)))
+
+pub unrank-le : (j k : Key) (e : ℕ) → Le (rank j e) (rank k e) → Le j k
+unrank-le j k e h = (omega arith, λ d. omega (arith, h .1 (omega arith)))
+
+-- Where nothing is left, the rank is the key.
+pub rank-zero : (k : Key) (e : ℕ) → e ≡ 0 → rank k e ≡ k
+rank-zero k e h = let c : k .cost + e ≡ k .cost = omega arith in λ i. record { cost = c i; steps = k .steps }
 
 -- ---- the tests of keys
 

@@ -1,6 +1,6 @@
 -- What is asked of a system, so that its exploration has one result, comes to its end and finds the best plan.
 use mathlib.Core.Path.{_≡_}
-use Prim.Native.Nat.{ℕ, _<_}
+use Prim.Native.Nat.{ℕ, _+_, _≤_, _<_}
 use mathlib.Core.Bool.{Bool, true, false, _&&_}
 use mathlib.Core.Option.{some}
 use mathlib.Core.Logic.{_↔_}
@@ -15,6 +15,9 @@ pub record Laws (S : System) : Type 0 where
   pub start-proper : S .Proper (S .startHints)
   pub carry-proper : (h : S .Hints) (n : S .Node) (i : ℕ) → S .Proper h → S .Proper (S .carry h n i)
   pub meet-proper : (g h : S .Hints) → S .Proper g → S .Proper h → S .Proper (S .meet g h)
+  -- the estimate never falls by more than an action's cost, and nothing is left at a goal
+  pub consistent : (m n : S .Node) (i : ℕ) → i < S .actions → S .step m i ≡ some n → S .estimate m ≤ S .cost i + S .estimate n
+  pub at-goal : (n : S .Node) → S .goal n ≡ true → S .estimate n ≡ 0
   pub ext : (g h : S .Hints) → S .Proper g → S .Proper h → ((s : S .Setting) → S .trueAt g s ≡ S .trueAt h s) → g ≡ h
 
 -- The nodes that are reached have different codes below the bound.

@@ -1,13 +1,14 @@
--- Paths through uncut entries: their ends, their runs, their lengths, and that they depend on lower keys alone.
+-- Paths through uncut entries: their ends, their runs, their lengths, and that they depend on entries of no higher rank alone.
 use mathlib.Core.Path.{_≡_, subst}
 use Prim.Native.Nat.{ℕ}
 use native.Mathlib.Omega.{arith}
 use mathlib.Core.List.{List}
 use lib.ListN.{length}
 use Rattle.model.specs.exploration.Key.{Key, zeroKey, extend, Le}
-use Rattle.model.specs.exploration.System.{System}
+use Rattle.model.specs.exploration.System.{System, rankOf}
 use Rattle.model.specs.exploration.Equations.{Entries, Starts, Uncut, Path, begin, onward}
-use Rattle.model.proofs.exploration.KeyLaws.{le-refl, le-trans, lt-le, extend-lt}
+use Rattle.model.proofs.exploration.KeyLaws.{le-refl, le-trans, lt-le, rank-step}
+use Rattle.model.proofs.exploration.Laws.{Laws}
 use Rattle.model.proofs.exploration.Runs.{Run, stop, on, run-append, run-steps}
 
 module _ (S : System) where
@@ -31,9 +32,12 @@ module _ (S : System) where
     path-cast {p} {q} {m} {n} {j} {k} a b c r =
         subst (λ (z : List ℕ). Path S L z n k) a (subst (λ (z : S .Node). Path S L p z k) b (subst (λ (z : Key). Path S L p m z) c r))
 
-  -- Entries up to a key are enough for a path of that key.
-  pub path-map : (L M : Entries S) {p : List ℕ} {n : S .Node} {k : Key} → ((j : Key) → Le j k → (m : S .Node) (h : S .Hints) → L m j h → M m j h) → Path S L p n k → Path S M p n k
-  path-map L M f (begin {n = n} s u) = begin s (u .0, f zeroKey (le-refl _) n (u .0) (u .1), u .2)
-  path-map L M f (onward {n = n} {k = k} i q b s u) =
+  -- Entries up to a rank are enough for a path to a node of that rank.
+  pub path-map : Laws S → (L M : Entries S) {p : List ℕ} {n : S .Node} {k : Key}
+      → ((j : Key) (m : S .Node) → Le (rankOf S m j) (rankOf S n k) → (h : S .Hints) → L m j h → M m j h)
+      → Path S L p n k → Path S M p n k
+  path-map laws L M f (begin {n = n} s u) = begin s (u .0, f zeroKey n (le-refl _) (u .0) (u .1), u .2)
+  path-map laws L M f (onward {m = m} {n = n} {k = k} i q b s u) =
       let c = extend k (S .cost i) in
-      onward i (path-map L M (λ j le. f j (le-trans j k c le (lt-le k c (extend-lt k (S .cost i))))) q) b s (u .0, f c (le-refl c) n (u .0) (u .1), u .2)
+      let l = lt-le _ _ (rank-step k (S .cost i) _ _ (laws .consistent m n i b s)) in
+      onward i (path-map laws L M (λ j x le. f j x (le-trans _ _ _ le l)) q) b s (u .0, f c n (le-refl _) (u .0) (u .1), u .2)

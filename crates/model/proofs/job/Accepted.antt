@@ -12,21 +12,21 @@ use lib.Pow.{pow-mono}
 use borrow.Author.Tests.{ltb-true, leb-true}
 use Rattle.model.specs.declared.Verdict.the-variants.{Fine}
 use Rattle.model.specs.Bits.{numberAt}
-use Rattle.model.specs.Verdict.{orElse}
 use Rattle.model.specs.logic.Formula.{Formula}
-use Rattle.model.specs.logic.Parts.{Part, partsOf}
+use Rattle.model.specs.logic.Parts.{mostParts, Part, partsOf}
 use Rattle.model.specs.logic.Reading.{Parsed, formula, wrong}
 use Rattle.model.specs.job.Job.{Job, Action, noAction, actionOf, listOf}
-use Rattle.model.specs.job.Layout.{factCount, actionCount, constraintCount, hintCount, pairOffset, actionOffset, actionAt, formulaIn, formulaAt, jobOf}
+use Rattle.model.specs.job.Layout.{setBytes, setCount, factCount, actionCount, constraintCount, hintCount, pairOffset, setOffset, actionAt}
+use Rattle.model.specs.job.Layout.{formulaIn, formulaAt, jobOf}
 use Rattle.model.specs.job.Decoding.{countsInRange, partsVerdict, formulaVerdict, headVerdict, pairsVerdict}
 use Rattle.model.specs.job.Decoding.{setVerdict, actionVerdict, taskVerdict, formulasVerdict, jobVerdict}
 use Rattle.model.proofs.exploration.Each.{All}
 use Rattle.model.proofs.Tests.{and-both}
 use Rattle.model.proofs.job.VerdictLaws.{bad-not-fine, orElse-fine, unless-fine, inTurn-fine, length-listOf, getD-listOf, all-listOf}
 
--- "A rule has at most 6" carried parts.
+-- No formula has more carried parts than it may.
 abbrev pub FewParts : List Formula → Type 0
-FewParts φs = All (λ φ. length (partsOf φ) ≤ 6) φs
+FewParts φs = All (λ φ. length (partsOf φ) ≤ mostParts) φs
 
 -- The limits: states of 64 bits, tables of 64 bits for each of 8 constraints and 8 hints.
 pub record ProperJob (j : Job) : Type 0 where
@@ -68,14 +68,14 @@ unfolding formulaVerdict
 formula-fine o (formula φ n) h = (φ, n, refl)
 formula-fine o (wrong p) h = absurd (bad-not-fine h)
 
-no-seventh : (ps : List Part) → drop 6 ps ≡ [] → length ps ≤ 6
-no-seventh ps e = let l : length ps - 6 ≡ 0 = sym (length-drop 6 ps) ∙ ap length e in omega arith
+no-seventh : (ps : List Part) → drop mostParts ps ≡ [] → length ps ≤ mostParts
+no-seventh ps e = let l : length ps - mostParts ≡ 0 = sym (length-drop mostParts ps) ∙ ap length e in omega arith
 
-parts-few : (o : ℕ) (ps : List Part) → partsVerdict o ps ≡ Fine → length ps ≤ 6
+parts-few : (o : ℕ) (ps : List Part) → partsVerdict o ps ≡ Fine → length ps ≤ mostParts
 unfolding partsVerdict
-parts-few o ps h = go (drop 6 ps) refl
+parts-few o ps h = go (drop mostParts ps) refl
   where
-    go : (qs : List Part) → drop 6 ps ≡ qs → length ps ≤ 6
+    go : (qs : List Part) → drop mostParts ps ≡ qs → length ps ≤ mostParts
     go [] e = no-seventh ps e
     go (q ∷ qs) e = absurd (bad-not-fine (rw (e, partsVerdict) at h))
 
@@ -99,34 +99,37 @@ module _ (bytes : List ℕ) where
       counts = counts-fine (factCount bytes) (actionCount bytes) (tests .1)
 
   -- An accepted set has no bit 64 or above.
-  set-lt : factCount bytes ≤ 64 → (o : ℕ) → setVerdict bytes o ≡ Fine → numberAt 8 bytes o < 2 ^ 64
+  set-lt : factCount bytes ≤ 64 → (o : ℕ) → setVerdict bytes o ≡ Fine → numberAt setBytes bytes o < 2 ^ 64
   unfolding setVerdict
-  set-lt v o h = lt-of-lt-of-le (ltb-true (numberAt 8 bytes o) (2 ^ factCount bytes) ((unless-fine _ 3 o) .0 h)) (pow-mono v)
+  set-lt v o h = lt-of-lt-of-le (ltb-true (numberAt setBytes bytes o) (2 ^ factCount bytes) ((unless-fine _ 3 o) .0 h)) (pow-mono v)
 
-  -- A section that passes holds its formula, which has at most 6 carried parts.
+  -- A section that passes holds its formula, which has no more carried parts than it may.
   pub section-fine : (o i : ℕ) → formulaVerdict o (formulaIn bytes i) ≡ Fine
-      → ((n : ℕ) × (formulaIn bytes i ≡ formula (formulaAt bytes i) n)) × (length (partsOf (formulaAt bytes i)) ≤ 6)
+      → ((n : ℕ) × (formulaIn bytes i ≡ formula (formulaAt bytes i) n)) × (length (partsOf (formulaAt bytes i)) ≤ mostParts)
   unfolding formulaVerdict formulaAt
   section-fine o i h = go (formulaIn bytes i) refl
     where
       go : (x : Parsed) → formulaIn bytes i ≡ x
-          → ((n : ℕ) × (formulaIn bytes i ≡ formula (formulaAt bytes i) n)) × (length (partsOf (formulaAt bytes i)) ≤ 6)
+          → ((n : ℕ) × (formulaIn bytes i ≡ formula (formulaAt bytes i) n)) × (length (partsOf (formulaAt bytes i)) ≤ mostParts)
       go (formula φ n) e =
           let a : formulaAt bytes i ≡ φ = rw (e, formulaAt) in
           ((n, e ∙ ap (λ (x : Formula). formula x n) (sym a)), rw a (parts-few o (partsOf φ) (rw (e, formulaVerdict) at h)))
       go (wrong p) e = absurd (bad-not-fine (rw (e, formulaVerdict) at h))
 
+  -- Each set of each action of an accepted task has no bit 64 or above.
+  sets-lt : factCount bytes ≤ 64 → taskVerdict bytes ≡ Fine → (i k : ℕ) → i < actionCount bytes → k < setCount
+      → numberAt setBytes bytes (setOffset bytes i k) < 2 ^ 64
+  unfolding taskVerdict actionVerdict
+  sets-lt v h i k l m =
+      let a = (orElse-fine (setVerdict bytes (pairOffset bytes 0)) _) .0 h in
+      let b = (orElse-fine (setVerdict bytes (pairOffset bytes 0 + setBytes)) _) .0 (a .1) in
+      let c = (inTurn-fine (actionCount bytes) (actionVerdict bytes)) .0 (b .1) i l in
+      set-lt v (setOffset bytes i k) ((inTurn-fine setCount (λ j. setVerdict bytes (setOffset bytes i j))) .0 c k m)
+
   -- The facts that an accepted action adds are below 64.
   action-add : factCount bytes ≤ 64 → taskVerdict bytes ≡ Fine → (i : ℕ) → i < actionCount bytes → actionAt bytes i .add < 2 ^ 64
-  unfolding taskVerdict actionVerdict actionAt
-  action-add v h i l =
-      let o : ℕ = actionOffset bytes i in
-      let a = (orElse-fine (setVerdict bytes (pairOffset bytes 0)) _) .0 h in
-      let b = (orElse-fine (setVerdict bytes (pairOffset bytes 0 + 8)) _) .0 (a .1) in
-      let c = (inTurn-fine (actionCount bytes) (actionVerdict bytes)) .0 (b .1) i l in
-      let d = (orElse-fine (setVerdict bytes o) (orElse (setVerdict bytes (o + 8)) (setVerdict bytes (o + 16)))) .0 c in
-      let e = (orElse-fine (setVerdict bytes (o + 8)) (setVerdict bytes (o + 16))) .0 (d .1) in
-      set-lt v (o + 8) (e .0)
+  unfolding actionAt
+  action-add v h i l = sets-lt v h i 1 l (omega arith)
 
   -- So are those of every action number: an action that the job does not have adds none.
   add-below : factCount bytes ≤ 64 → taskVerdict bytes ≡ Fine → (i : ℕ) → actionOf (jobOf bytes) i .add < 2 ^ 64
@@ -177,5 +180,5 @@ module _ (bytes : List ℕ) where
       task : taskVerdict bytes ≡ Fine
       task = accepted-checks h .2
 
-      few : (i : ℕ) → i < constraintCount bytes + hintCount bytes → length (partsOf (formulaAt bytes (1 + i))) ≤ 6
+      few : (i : ℕ) → i < constraintCount bytes + hintCount bytes → length (partsOf (formulaAt bytes (1 + i))) ≤ mostParts
       few i l = section-fine (pairOffset bytes (1 + i)) (1 + i) (each-formula h i l) .1

@@ -7,7 +7,7 @@ use mathlib.Core.List.{List, [], _∷_}
 use lib.ListN.{length, getD}
 use Rattle.model.specs.Bits.{bit}
 use Rattle.model.specs.logic.Formula.{Formula}
-use Rattle.model.specs.logic.Parts.{partsOf}
+use Rattle.model.specs.logic.Parts.{mostParts, partsOf}
 use Rattle.model.specs.logic.Truth.{World}
 use Rattle.model.specs.search.Node.{residuals, progressedAll, meetAll}
 use Rattle.model.proofs.exploration.Each.{All}
@@ -15,7 +15,7 @@ use Rattle.model.proofs.bits.Bits.{bit-zero}
 use Rattle.model.proofs.bits.Bitwise.{bit-and, and-lt}
 use Rattle.model.proofs.logic.ResidualLaws.{residual-lt, progressed-lt}
 
--- each a truth table of 6 parts
+-- each a truth table of 64 bits
 abbrev pub Words : List ℕ → Type 0
 Words rs = All (λ r. r < 2 ^ 64) rs
 
@@ -34,7 +34,7 @@ length-residuals (φ ∷ φs) w = ap suc (length-residuals φs w)
 pub residuals-words : (φs : List Formula) (w : World) → Words (residuals φs w)
 unfolding residuals
 residuals-words [] w = tt
-residuals-words (φ ∷ φs) w = (residual-lt 6 φ w, residuals-words φs w)
+residuals-words (φ ∷ φs) w = (residual-lt mostParts φ w, residuals-words φs w)
 
 -- ---- what residuals leave after a further world
 
@@ -48,7 +48,7 @@ pub progressedAll-words : (φs : List Formula) (rs : List ℕ) (w : World) → W
 unfolding progressedAll
 progressedAll-words [] rs w = tt
 progressedAll-words (φ ∷ φs) [] w = tt
-progressedAll-words (φ ∷ φs) (r ∷ rs) w = (progressed-lt 6 (partsOf φ) r w, progressedAll-words φs rs w)
+progressedAll-words (φ ∷ φs) (r ∷ rs) w = (progressed-lt mostParts (partsOf φ) r w, progressedAll-words φs rs w)
 
 -- ---- the conjunction
 

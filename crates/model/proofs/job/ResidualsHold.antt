@@ -10,7 +10,7 @@ use lib.ListN.{length, getD}
 use Rattle.model.specs.Bits.{bit, bitsOf}
 use Rattle.model.specs.declared.Constant.the-variants.{True}
 use Rattle.model.specs.logic.Formula.{Formula, constant}
-use Rattle.model.specs.logic.Parts.{Part, partsOf}
+use Rattle.model.specs.logic.Parts.{mostParts, Part, partsOf}
 use Rattle.model.specs.logic.Truth.{World, holds, allHold}
 use Rattle.model.specs.logic.Progression.{dead, residualHolds, closing}
 use Rattle.model.specs.job.Job.{Job, actionOf}
@@ -37,7 +37,7 @@ residuals-right : (φs : List Formula) → FewParts φs → (w v : World) (rest 
 unfolding residualsHold residuals allHold
 residuals-right [] f w v rest = refl
 residuals-right (φ ∷ φs) f w v rest =
-    ap₂ _&&_ (residual-right 6 φ (f .0) w v rest) (residuals-right φs (f .1) w v rest) ∙ sym (allHold-cons φ φs (w ∷ v ∷ rest))
+    ap₂ _&&_ (residual-right mostParts φ (f .0) w v rest) (residuals-right φs (f .1) w v rest) ∙ sym (allHold-cons φ φs (w ∷ v ∷ rest))
 
 -- What residuals leave after a world holds of the others exactly if they hold of all.
 progressedAll-right : (φs : List Formula) → FewParts φs → (rs : List ℕ) (w v : World) (rest : List World)
@@ -45,7 +45,7 @@ progressedAll-right : (φs : List Formula) → FewParts φs → (rs : List ℕ) 
 unfolding residualsHold progressedAll
 progressedAll-right [] f rs w v rest = refl
 progressedAll-right (φ ∷ φs) f [] w v rest = refl
-progressedAll-right (φ ∷ φs) f (r ∷ rs) w v rest = ap₂ _&&_ (progressed-right 6 φ (f .0) r w v rest) (progressedAll-right φs (f .1) rs w v rest)
+progressedAll-right (φ ∷ φs) f (r ∷ rs) w v rest = ap₂ _&&_ (progressed-right mostParts φ (f .0) r w v rest) (progressedAll-right φs (f .1) rs w v rest)
 
 -- In the closing world alone it is `closingAll`.
 pub closing-right : (φs : List Formula) (rs : List ℕ) (w : World) → closingAll φs rs w ≡ residualsHold φs rs (w ∷ [])

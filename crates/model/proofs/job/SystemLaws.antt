@@ -1,6 +1,7 @@
 -- The system of a job meets the laws of exploration.
-use mathlib.Core.Path.{_≡_, sym, _∙_}
+use mathlib.Core.Path.{_≡_, refl, sym, _∙_}
 use Prim.Native.Nat.{ℕ}
+use native.Mathlib.Omega.{arith}
 use mathlib.Core.Bool.{_&&_}
 use mathlib.Core.List.{List}
 use mathlib.Core.Option.{none, some}
@@ -49,5 +50,7 @@ module _ (j : Job) where
     start-proper = start-tables;
     carry-proper = carry-tables;
     meet-proper = meet-tables;
+    consistent = λ m n i b s. omega arith;
+    at-goal = λ n g. refl;
     ext = tables-ext;
   }

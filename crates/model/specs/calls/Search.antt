@@ -27,12 +27,11 @@ abbrev pub searchEnd : Searched → List ℕ → List ℕ → SearchEnd
 searchEnd r table buffer = record { result = r; table = table; plan = buffer }
 
 -- "A place has one fixed size, stated in docs/ and at most 256 bytes"; here it is a slot.
-unfoldable pub slotBytes : ℕ
+abbrev pub slotBytes : ℕ
 slotBytes = 160
 
 -- "the table's places are its whole ones, or 65,536 if there are more"
 unfoldable pub slotsIn : List ℕ → ℕ
-unfolding slotBytes
 slotsIn table = let n : ℕ = length table / slotBytes in choose (leb n 65_536) n 65_536
 
 -- "search answers and 10 to 13 of a search leave every byte of the table zero"

@@ -6,9 +6,9 @@ use mathlib.Core.Option.{some}
 use mathlib.Core.Logic.{_⊎_, _↔_}
 use mathlib.Core.List.{List, [], _∷_, _++_}
 use Rattle.model.specs.exploration.Key.{Key, zeroKey, extend, Le, First}
-use Rattle.model.specs.exploration.System.{System}
+use Rattle.model.specs.exploration.System.{System, rankOf}
 
--- How far a set of entries is to go: all arrivals up to a key, or all.
+-- How far a set of entries is to go: all arrivals up to a rank, or all.
 pub data Bound : Type 0 where
   up-to : Key → Bound
   unbounded : Bound
@@ -48,7 +48,7 @@ module _ (S : System) where
     -- "The start pair, the start facts with the remainders they leave, is reached"; its hint residuals come from the start facts.
     pub start : {n : S .Node} → Starts n → L n zeroKey (S .startHints)
     -- "and so is every pair to which an applicable step leads from a reached pair that is not cut"
-    pub complete : {n : S .Node} {k : Key} {h : S .Hints} → Within B k → Arrives L n k h → (j : Key) × (g : S .Hints) × L n j g
+    pub complete : {n : S .Node} {k : Key} {h : S .Hints} → Within B (rankOf S n k) → Arrives L n k h → (j : Key) × (g : S .Hints) × L n j g
     -- No other node is reached, and the key of "any other pair" is one "by which one step leads to it".
     pub arrived : {n : S .Node} {k : Key} {h : S .Hints} → L n k h → Starts n ⊎ ((g : S .Hints) × Arrives L n k g)
     -- It is "the least key by which one step leads to it", and "dearer paths to it do not revive it".

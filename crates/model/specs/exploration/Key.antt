@@ -1,4 +1,4 @@
--- Keys of paths, and the order of action sequences of equal length.
+-- Keys of paths, ranks, and the order of action sequences of equal length.
 use mathlib.Core.Path.{_≡_}
 use Prim.Native.Nat.{ℕ, suc, _+_, _≤_, _<_}
 use mathlib.Core.Bool.{Bool, true, false}
@@ -17,6 +17,10 @@ zeroKey = record { cost = 0; steps = 0 }
 -- the key of a path with one more action of cost c
 unfoldable pub extend : Key → ℕ → Key
 extend k c = record { cost = k .cost + c; steps = suc (k .steps) }
+
+-- the rank of a node that is reached by a key, where e is the estimate of what is left: cost plus estimate, then steps
+abbrev pub rank : Key → ℕ → Key
+rank k e = record { cost = k .cost + e; steps = k .steps }
 
 -- "keys compare in that order": cost, then steps
 abbrev pub Le : Key → Key → Type 0

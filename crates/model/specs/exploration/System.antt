@@ -1,7 +1,8 @@
--- The transition system that a search explores: nodes, actions and hint residuals, with nothing said of formulas, bits or bytes.
+-- The transition system that a search explores: nodes, actions, an estimate and hint residuals, with nothing said of formulas, bits or bytes.
 use Prim.Native.Nat.{ℕ}
 use mathlib.Core.Bool.{Bool}
 use mathlib.Core.Option.{Option}
+use Rattle.model.specs.exploration.Key.{Key, rank}
 
 -- Actions are the numbers below `actions`.
 pub record System : Type 1 where
@@ -16,6 +17,8 @@ pub record System : Type 1 where
   pub step : Node → ℕ → Option Node
   -- has the goal, and the constraints' residuals are true of the closing world alone
   pub goal : Node → Bool
+  -- an estimate of the cost that is left from a node
+  pub estimate : Node → ℕ
   -- the hint residuals of a path, all together
   pub Hints : Type 0
   pub startHints : Hints
@@ -32,3 +35,7 @@ pub record System : Type 1 where
   pub Proper : Hints → Type 0
   -- at least as many as there are nodes
   pub bound : ℕ
+
+-- what a node is taken by, which a path of key k reaches
+abbrev pub rankOf : (S : System) → S .Node → Key → Key
+rankOf S n k = rank k (S .estimate n)

@@ -9,8 +9,9 @@ use Rattle.model.specs.declared.Verdict.the-variants.{Fine, Bad}
 use Rattle.model.specs.Bits.{numberAt}
 use Rattle.model.specs.Verdict.{refusal, unless, orElse, inTurn}
 use Rattle.model.specs.logic.Reading.{Parsed, formula, wrong}
-use Rattle.model.specs.logic.Parts.{Part, partsOf}
-use Rattle.model.specs.job.Layout.{factCount, actionCount, constraintCount, hintCount, pairCount, pairOffset, pairLength, actionOffset, formulaIn}
+use Rattle.model.specs.logic.Parts.{mostParts, Part, partsOf}
+use Rattle.model.specs.job.Layout.{setBytes, setCount, factCount, actionCount, constraintCount, hintCount, pairCount, pairOffset, pairLength}
+use Rattle.model.specs.job.Layout.{taskBytes, setOffset, formulaIn}
 
 -- "V and A outside their ranges"
 unfoldable pub countsInRange : ℕ → ℕ → Bool
@@ -18,7 +19,7 @@ countsInRange v a = leb 1 v && leb v 64 && leb a 64
 
 -- "more than 6 carried parts": refused at "the seventh", counted from an offset
 unfoldable pub partsVerdict : ℕ → List Part → Verdict
-partsVerdict o ps = elim (drop 6 ps) [ [] ↦ Fine | p ∷ qs ↦ Bad (refusal 5 (o + p .position)) ]
+partsVerdict o ps = elim (drop mostParts ps) [ [] ↦ Fine | p ∷ qs ↦ Bad (refusal 5 (o + p .position)) ]
 
 -- a section's formula: "unknown code, number too large, early end, bytes left", then "same section, after 4" the carried parts
 unfoldable pub formulaVerdict : ℕ → Parsed → Verdict
@@ -39,10 +40,10 @@ module _ (bytes : List ℕ) where
   sectionStart zero = 4 + 4 * pairCount bytes
   sectionStart (suc i) = pairOffset bytes i + pairLength bytes i
 
-  -- "Task section, exactly 16 + 26 × A bytes"; a formula's "has 1 to 128 bytes"
+  -- the task section has exactly the bytes of its start, goal and actions; a formula's "has 1 to 128 bytes"
   unfoldable pub rightLength : ℕ → ℕ → Bool
-  unfolding actionCount
-  rightLength zero n = eqb n (16 + 26 * actionCount bytes)
+  unfolding taskBytes
+  rightLength zero n = eqb n (taskBytes bytes)
   rightLength (suc i) n = leb 1 n && leb n 128
 
   -- pairs, in turn: "pair or section not whole, not adjoining, wrong length"
@@ -60,15 +61,15 @@ module _ (bytes : List ℕ) where
   -- task: "a bit V or above", refused at the "offset of the first such number"
   unfoldable pub setVerdict : ℕ → Verdict
   unfolding unless numberAt factCount
-  setVerdict o = unless (ltb (numberAt 8 bytes o) (2 ^ factCount bytes)) 3 o
+  setVerdict o = unless (ltb (numberAt setBytes bytes o) (2 ^ factCount bytes)) 3 o
 
   unfoldable pub actionVerdict : ℕ → Verdict
-  unfolding orElse setVerdict actionOffset
-  actionVerdict i = orElse (setVerdict (actionOffset bytes i)) (orElse (setVerdict (actionOffset bytes i + 8)) (setVerdict (actionOffset bytes i + 16)))
+  unfolding inTurn setVerdict setOffset
+  actionVerdict i = inTurn setCount (λ k. setVerdict (setOffset bytes i k))
 
   unfoldable pub taskVerdict : Verdict
   unfolding inTurn orElse setVerdict actionVerdict pairOffset actionCount
-  taskVerdict = orElse (setVerdict (pairOffset bytes 0)) (orElse (setVerdict (pairOffset bytes 0 + 8)) (inTurn (actionCount bytes) actionVerdict))
+  taskVerdict = orElse (setVerdict (pairOffset bytes 0)) (orElse (setVerdict (pairOffset bytes 0 + setBytes)) (inTurn (actionCount bytes) actionVerdict))
 
   -- "each rule, then hint"
   unfoldable pub formulasVerdict : Verdict

@@ -8,6 +8,26 @@ use Rattle.model.specs.logic.Reading.{Parsed, formula, wrong, section}
 use Rattle.model.specs.declared.Constant.the-variants.{False}
 use Rattle.model.specs.job.Job.{Action, Job, listOf}
 
+-- A set of facts has 64 bits.
+abbrev pub setBytes : ℕ
+setBytes = 8
+
+-- An action has this many sets: the needed, the added and the deleted facts.
+abbrev pub setCount : ℕ
+setCount = 3
+
+-- A cost has 16 bits.
+abbrev pub costBytes : ℕ
+costBytes = 2
+
+-- The start and the goal stand before the actions.
+abbrev pub taskHead : ℕ
+taskHead = 16
+
+-- An action is its sets and its cost.
+abbrev pub actionBytes : ℕ
+actionBytes = 26
+
 module _ (bytes : List ℕ) where
   -- "Byte 0: number of facts V, 1 to 64. Byte 1: number of steps A, 0 to 64. Byte 2: rules, 0 to 8. Byte 3: hints, 0 to 8."
   unfoldable pub factCount : ℕ
@@ -42,18 +62,33 @@ module _ (bytes : List ℕ) where
 
   -- "Task section, exactly 16 + 26 × A bytes: start (64 bits, bit i is fact i), goal, then per step: needed, added, deleted (64 bits each),
   -- cost (16 bits)." It is section 0.
+  unfoldable pub taskBytes : ℕ
+  unfolding actionCount
+  taskBytes = taskHead + actionBytes * actionCount
+
+  -- where action i begins
   unfoldable pub actionOffset : ℕ → ℕ
   unfolding pairOffset
-  actionOffset i = pairOffset 0 + 16 + 26 * i
+  actionOffset i = pairOffset 0 + taskHead + actionBytes * i
+
+  -- where set k of action i stands
+  unfoldable pub setOffset : ℕ → ℕ → ℕ
+  unfolding actionOffset
+  setOffset i k = actionOffset i + setBytes * k
+
+  -- where the cost of action i stands, which comes after the sets
+  unfoldable pub costOffset : ℕ → ℕ
+  unfolding setOffset
+  costOffset i = setOffset i setCount
 
   unfoldable pub actionAt : ℕ → Action
-  unfolding actionOffset numberAt
+  unfolding setOffset costOffset numberAt
   actionAt i =
       record {
-        pre = numberAt 8 bytes (actionOffset i);
-        add = numberAt 8 bytes (actionOffset i + 8);
-        del = numberAt 8 bytes (actionOffset i + 16);
-        cost = numberAt 2 bytes (actionOffset i + 24);
+        pre = numberAt setBytes bytes (setOffset i 0);
+        add = numberAt setBytes bytes (setOffset i 1);
+        del = numberAt setBytes bytes (setOffset i 2);
+        cost = numberAt costBytes bytes (costOffset i);
       }
 
   -- the formula in section i
@@ -70,8 +105,8 @@ module _ (bytes : List ℕ) where
   unfolding numberAt pairOffset actionCount constraintCount hintCount actionAt formulaAt listOf
   jobOf =
       record {
-        start = numberAt 8 bytes (pairOffset 0);
-        goal = numberAt 8 bytes (pairOffset 0 + 8);
+        start = numberAt setBytes bytes (pairOffset 0);
+        goal = numberAt setBytes bytes (pairOffset 0 + setBytes);
         actions = listOf actionAt actionCount;
         constraints = listOf (λ i. formulaAt (1 + i)) constraintCount;
         hints = listOf (λ i. formulaAt (1 + constraintCount + i)) hintCount;

@@ -52,6 +52,10 @@ count (binary Or φ ψ) = count φ + count ψ
 count (binary Until φ ψ) = 1 + (count φ + count ψ)
 count (binary Release φ ψ) = 1 + (count φ + count ψ)
 
+-- "A rule has at most 6."
+abbrev pub mostParts : ℕ
+mostParts = 6
+
 -- a carried part: the formula, its position, and the number of the first part that stands in it (its own, if it begins with 21 to 24)
 pub record Part : Type 0 where
   pub shape : Formula

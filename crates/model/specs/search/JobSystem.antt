@@ -11,7 +11,7 @@ use Rattle.model.specs.task.State.{within, applicable, after}
 use Rattle.model.specs.exploration.System.{System}
 use Rattle.model.specs.exploration.Equations.{Answer}
 use Rattle.model.specs.exploration.Explore.{reached, solve}
-use Rattle.model.specs.search.Node.{Node, residuals, progressedAll, closingAll, someDead, meetAll, sameNode}
+use Rattle.model.specs.search.Node.{Node, nodeWords, residuals, progressedAll, closingAll, someDead, meetAll, sameNode}
 
 -- a node, unless a constraint is dead: "but a pair with a dead rule remainder is not reached"
 unfoldable pub alive : ℕ → List ℕ → Option Node
@@ -57,13 +57,13 @@ unfoldable pub hintTrueAt : List ℕ → HintSetting → Bool
 unfolding bit
 hintTrueAt h s = bit (getD h (s .hint) 0) (s .parts)
 
--- a truth table of 6 parts for each hint
+-- a truth table of 64 bits for each hint
 abbrev pub Tables : Job → List ℕ → Type 0
 Tables j h = (length h ≡ length (j .hints)) × ((i : ℕ) → getD h i 0 < 2 ^ 64)
 
--- a state and 8 residuals, of 64 bits each
+-- There are no more nodes than a node's words have values.
 unfoldable pub mostNodes : ℕ
-mostNodes = 2 ^ (64 * 9)
+mostNodes = 2 ^ (64 * nodeWords)
 
 abbrev pub systemOf : Job → System
 systemOf j = record {
@@ -74,6 +74,7 @@ systemOf j = record {
   cost = λ i. actionOf j i .cost;
   step = nextNode j;
   goal = isGoal j;
+  estimate = λ n. 0;
   Hints = List ℕ;
   startHints = startHints j;
   carry = carryHints j;

@@ -5,7 +5,7 @@ use mathlib.Core.List.{List, [], _∷_}
 use lib.Bits.{bitAnd}
 use lib.Dec.{eqb}
 use Rattle.model.specs.logic.Formula.{Formula}
-use Rattle.model.specs.logic.Parts.{partsOf}
+use Rattle.model.specs.logic.Parts.{mostParts, partsOf}
 use Rattle.model.specs.logic.Truth.{World}
 use Rattle.model.specs.logic.Progression.{residual, progressed, dead, closing}
 
@@ -14,9 +14,9 @@ pub record Node : Type 0 where
   pub state : ℕ
   pub residuals : List ℕ
 
--- "A rule has at most 6" carried parts.
-abbrev pub mostParts : ℕ
-mostParts = 6
+-- the words of a node in memory: a state and the residuals of eight constraints, of 64 bits each
+abbrev pub nodeWords : ℕ
+nodeWords = 9
 
 -- what the formulas leave after the first world
 unfoldable pub residuals : List Formula → World → List ℕ

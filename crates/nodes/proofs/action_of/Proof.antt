@@ -1,31 +1,28 @@
 -- `action_of` reads an action's four numbers, whose bytes are there.
-use Prim.Native.Nat.{_+_, _≤_}
 use native.Mathlib.Omega.{arith}
-use lib.ListN.{length}
 use borrow.Author.Needs.{needs}
-use Rattle.model.specs.job.Layout.{actionOffset}
-use Rattle.job.proofs.Bounds.{task-pair, action-inside}
+use Rattle.job.specs.Laid.{ActionThere}
+use Rattle.job.proofs.Bounds.{action-there}
 use Rattle.job.proofs.Accepted.{accepted-laid}
 use Rattle.nodes.proofs.Fields.{action-read}
 use Rattle.nodes.proofs.action_of.Statement.{statement}
 use Rattle.nodes.proofs.action_of.Tie as tie
 
 -- The action's bytes are there.
-inside : (c : tie.After-wide) → let b = c .before .before .args .job .now in
-    (8 ≤ length b) × (actionOffset b (c .wide .result) + 26 ≤ length b)
-inside c = let l = accepted-laid _ (c .before .before .pre .0) in (task-pair l, action-inside l _ (omega arith))
+there : (c : tie.After-wide) → ActionThere (c .before .before .args .job .now) (c .wide .result)
+there c = action-there (accepted-laid _ (c .before .before .pre .0)) _ (omega arith)
 
 action-pre-requires : tie.Need-action-pre-requires
-action-pre-requires c κs = inside c
+action-pre-requires c κs = there c
 
 action-add-requires : tie.Need-action-add-requires
-action-add-requires c κs = inside (c .before)
+action-add-requires c κs = there (c .before)
 
 action-del-requires : tie.Need-action-del-requires
-action-del-requires c κs = inside (c .before .before)
+action-del-requires c κs = there (c .before .before)
 
 action-cost-requires : tie.Need-action-cost-requires
-action-cost-requires c κs = inside (c .before .before .before)
+action-cost-requires c κs = there (c .before .before .before)
 
 returns : tie.Need-returns
 returns c =

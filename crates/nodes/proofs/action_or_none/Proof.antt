@@ -24,7 +24,7 @@ past c = c .before
 -- ---- needs
 
 action-count-requires : tie.Need-action-count-requires
-action-count-requires c κs = accepted-laid _ (c .before .pre) .head
+action-count-requires c κs = accepted-laid _ (c .before .pre) .head .whole
 
 returns : tie.Need-returns
 returns c = c .action-of .ensures .acts

@@ -43,10 +43,10 @@ ended c = c .before
 -- ---- needs
 
 few : (c : tie.After-action-count Inv-loop μ-loop) → c .action-count .result ≤ 64
-few c = omega (arith, accepted-laid _ (start c .pre) .few-actions, c .action-count .ensures)
+few c = omega (arith, accepted-laid _ (start c .pre) .head .few-actions, c .action-count .ensures)
 
 action-count-requires : tie.Need-action-count-requires Inv-loop μ-loop
-action-count-requires c κs = accepted-laid _ (c .before .pre) .head
+action-count-requires c κs = accepted-laid _ (c .before .pre) .head .whole
 
 add-left : tie.Need-add-left Inv-loop μ-loop
 add-left c = omega (arith, few c)

@@ -1,14 +1,14 @@
 -- `cost_of` reads an action's last number.
 use native.Mathlib.Omega.{arith}
 use borrow.Author.Needs.{needs}
-use Rattle.job.proofs.Bounds.{task-pair, action-inside}
+use Rattle.job.proofs.Bounds.{action-there}
 use Rattle.job.proofs.Accepted.{accepted-laid}
 use Rattle.nodes.proofs.Fields.{cost-read}
 use Rattle.nodes.proofs.cost_of.Statement.{statement}
 use Rattle.nodes.proofs.cost_of.Tie as tie
 
 action-cost-requires : tie.Need-action-cost-requires
-action-cost-requires c κs = let l = accepted-laid _ (c .before .before .pre .0) in (task-pair l, action-inside l _ (omega arith))
+action-cost-requires c κs = action-there (accepted-laid _ (c .before .before .pre .0)) _ (omega arith)
 
 returns : tie.Need-returns
 returns c =

@@ -8,7 +8,7 @@ use Rattle.nodes.proofs.is_cut.Statement.{statement}
 use Rattle.nodes.proofs.is_cut.Tie as tie
 
 hint-count-requires : tie.Need-hint-count-requires
-hint-count-requires c κs = accepted-laid _ (c .before .pre) .head
+hint-count-requires c κs = accepted-laid _ (c .before .pre) .head .whole
 
 some-dead-requires : tie.Need-some-dead-requires
 some-dead-requires c κs = let l = accepted-laid _ (c .before .before .before .pre) in omega arith

@@ -3,7 +3,7 @@ use mathlib.Core.Path.{sym, _∙_}
 use borrow.Author.Tests.{not-true, not-false}
 use borrow.Author.Needs.{needs}
 use Rattle.model.specs.job.Layout.{jobOf}
-use Rattle.job.proofs.Bounds.{task-pair, task-inside}
+use Rattle.job.proofs.Bounds.{head-there}
 use Rattle.job.proofs.Accepted.{accepted-laid}
 use Rattle.nodes.proofs.Arrivals.{goal-not, goal-closing}
 use Rattle.nodes.proofs.is_goal.Statement.{statement}
@@ -20,7 +20,7 @@ goal c = c .before
 -- ---- needs
 
 goal-requires : tie.Need-goal-requires
-goal-requires c κs = let l = accepted-laid _ (c .before .before .pre .0) in (task-pair l, task-inside l)
+goal-requires c κs = head-there (accepted-laid _ (c .before .before .pre .0))
 
 returns : tie.Need-returns
 returns c =

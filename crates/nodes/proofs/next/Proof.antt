@@ -34,7 +34,7 @@ progressed c = c .before .before .before
 -- ---- needs
 
 constraint-count-requires : tie.Need-constraint-count-requires
-constraint-count-requires c κs = accepted-laid _ (start (acted c) .pre .0) .head
+constraint-count-requires c κs = accepted-laid _ (start (acted c) .pre .0) .head .whole
 
 returns : tie.Need-returns
 returns c =
@@ -64,7 +64,7 @@ returns-2 c =
     let l = accepted-laid _ (s .pre .0) in (
       next-leads (jobOf (s .args .job .now)) _ (s .args .t3) (s .args .i) (a .action-of .ensures .acts) (s .pre .2) (f .after .ensures)
           (r .residuals-of .ensures) (n .constraints-next .ensures .0) (c .unless-dead .ensures)
-          (length-constraints _) (omega (arith, l .few-constraints, s .good)),
+          (length-constraints _) (omega (arith, l .head .few-constraints, s .good)),
       n .constraints-next .ensures .1,
     )
 

@@ -4,7 +4,7 @@ use borrow.Author.Needs.{needs}
 use Rattle.model.specs.search.JobSystem.{startHints}
 use Rattle.model.specs.job.Layout.{jobOf}
 use Rattle.model.proofs.job.ResidualLists.{length-residuals}
-use Rattle.job.proofs.Bounds.{task-pair, task-inside}
+use Rattle.job.proofs.Bounds.{head-there}
 use Rattle.job.proofs.Accepted.{accepted-laid}
 use Rattle.nodes.proofs.Fields.{length-hints}
 use Rattle.nodes.proofs.Hints.{padded-carries}
@@ -12,7 +12,7 @@ use Rattle.nodes.proofs.start_hints.Statement.{statement}
 use Rattle.nodes.proofs.start_hints.Tie as tie
 
 start-requires : tie.Need-start-requires
-start-requires c κs = let l = accepted-laid _ (c .before .pre) in (task-pair l, task-inside l)
+start-requires c κs = head-there (accepted-laid _ (c .before .pre))
 
 returns : tie.Need-returns
 unfolding startHints

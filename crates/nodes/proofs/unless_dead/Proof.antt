@@ -9,7 +9,7 @@ use Rattle.nodes.proofs.unless_dead.Statement.{statement}
 use Rattle.nodes.proofs.unless_dead.Tie as tie
 
 constraint-count-requires : tie.Need-constraint-count-requires
-constraint-count-requires c κs = accepted-laid _ (c .before .pre) .head
+constraint-count-requires c κs = accepted-laid _ (c .before .pre) .head .whole
 
 some-dead-requires : tie.Need-some-dead-requires
 some-dead-requires c κs = let l = accepted-laid _ (c .before .before .before .pre) in omega arith

@@ -40,7 +40,7 @@ looped c = c .before .before .before
 -- ---- needs
 
 constraint-count-requires : tie.Need-constraint-count-requires Inv-loop μ-loop
-constraint-count-requires c κs = accepted-laid _ (c .before .before .pre .0) .head
+constraint-count-requires c κs = accepted-laid _ (c .before .before .pre .0) .head .whole
 
 loop-holds : tie.Need-loop-holds Inv-loop μ-loop
 unfolding formulasFrom listOf closingAll

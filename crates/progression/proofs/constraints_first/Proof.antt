@@ -9,7 +9,7 @@ use Rattle.progression.proofs.constraints_first.Statement.{statement}
 use Rattle.progression.proofs.constraints_first.Tie as tie
 
 constraint-count-requires : tie.Need-constraint-count-requires
-constraint-count-requires c κs = accepted-laid _ (c .before .pre) .head
+constraint-count-requires c κs = accepted-laid _ (c .before .pre) .head .whole
 
 first-requires : tie.Need-first-requires
 unfolding pairCount

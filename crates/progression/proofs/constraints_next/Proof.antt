@@ -16,7 +16,7 @@ start c = c .before .before .before .before
 -- ---- needs
 
 constraint-count-requires : tie.Need-constraint-count-requires
-constraint-count-requires c κs = accepted-laid _ (c .before .before .pre .0) .head
+constraint-count-requires c κs = accepted-laid _ (c .before .before .pre .0) .head .whole
 
 returns : tie.Need-returns
 returns c =

@@ -9,10 +9,10 @@ use Rattle.progression.proofs.hints_first.Statement.{statement}
 use Rattle.progression.proofs.hints_first.Tie as tie
 
 constraint-count-requires : tie.Need-constraint-count-requires
-constraint-count-requires c κs = accepted-laid _ (c .before .pre) .head
+constraint-count-requires c κs = accepted-laid _ (c .before .pre) .head .whole
 
 hint-count-requires : tie.Need-hint-count-requires
-hint-count-requires c κs = accepted-laid _ (c .before .before .before .pre) .head
+hint-count-requires c κs = accepted-laid _ (c .before .before .before .pre) .head .whole
 
 first-requires : tie.Need-first-requires
 unfolding pairCount

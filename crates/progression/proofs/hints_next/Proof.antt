@@ -19,10 +19,10 @@ start c = c .before .before .before .before
 -- ---- needs
 
 constraint-count-requires : tie.Need-constraint-count-requires
-constraint-count-requires c κs = accepted-laid _ (c .before .before .pre .0) .head
+constraint-count-requires c κs = accepted-laid _ (c .before .before .pre .0) .head .whole
 
 hint-count-requires : tie.Need-hint-count-requires
-hint-count-requires c κs = accepted-laid _ (start c .pre .0) .head
+hint-count-requires c κs = accepted-laid _ (start c .pre .0) .head .whole
 
 returns : tie.Need-returns
 returns c =

@@ -3,6 +3,7 @@ use borrow.Author.Needs.{needs}
 use mathlib.Core.Path.{ap, _∙_, subst⁻¹}
 use mathlib.Core.List.{List}
 use Prim.Native.Nat.{ℕ}
+use Rattle.model.specs.logic.Parts.{mostParts}
 use Rattle.model.specs.Bits.{bit}
 use Rattle.model.specs.logic.Reading.{parsed}
 use Rattle.bits.specs.Tables.{Upward, substituted}
@@ -16,13 +17,14 @@ evaluate-requires c κs = let d = c .before .before in ready-few (parsed 64 64 (
 substitute-requires : tie.Need-substitute-requires
 substitute-requires c κs =
     let d = c .before .before .before in
-    subst⁻¹ (λ (x : List ℕ). Upward 6 x) (c .evaluate .ensures .1) (ready-upward _ _ (parsed 64 64 (d .args .s .now) 0) (d .pre))
+    subst⁻¹ (λ (x : List ℕ). Upward mostParts x) (c .evaluate .ensures .1) (ready-upward _ _ (parsed 64 64 (d .args .s .now) 0) (d .pre))
 
 returns : tie.Need-returns
 returns c =
     let d = c .before .before .before .before .before in
     let a = d .args in
-    c .bit-at .ensures ∙ ap (λ (x : ℕ). bit x 0) (c .before .substitute .ensures ∙ ap (λ (x : List ℕ). substituted 6 x (a .r)) (c .before .before .evaluate .ensures .1))
+    c .bit-at .ensures
+    ∙ ap (λ (x : ℕ). bit x 0) (c .before .substitute .ensures ∙ ap (λ (x : List ℕ). substituted mostParts x (a .r)) (c .before .before .evaluate .ensures .1))
     ∙ closing-answers _ (parsed 64 64 (a .s .now) 0) (d .pre) (a .r)
 
 pub closing-spec : {M : Type 1} → statement M

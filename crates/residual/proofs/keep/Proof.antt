@@ -3,11 +3,12 @@ use borrow.Author.Needs.{needs}
 use mathlib.Core.Path.{refl}
 use Prim.Native.Nat.{_<_}
 use native.Mathlib.Omega.{arith}
+use Rattle.model.specs.logic.Parts.{mostParts}
 use Rattle.residual.proofs.keep.Statement.{statement}
 use Rattle.residual.proofs.keep.Tie as tie
 
 mul-tables : tie.Need-mul-tables
-mul-tables c = let h : c .before .args .number < 6 = c .before .pre (c .if1 .taken) in omega arith
+mul-tables c = let h : c .before .args .number < mostParts = c .before .pre (c .if1 .taken) in omega arith
 
 element-write-tables : tie.Need-element-write-tables
 element-write-tables c = c .before .pre (c .if1 .taken)

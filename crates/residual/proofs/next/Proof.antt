@@ -4,6 +4,7 @@ use mathlib.Core.Option.{Option, some}
 use mathlib.Core.List.{List}
 use Prim.Native.Nat.{ℕ, _<_}
 use borrow.Author.Tests.{lt-ltb}
+use Rattle.model.specs.logic.Parts.{mostParts}
 use Rattle.model.specs.logic.Reading.{parsed}
 use Rattle.bits.specs.Tables.{Upward, substituted}
 use Rattle.residual.specs.Node.{madeBy}
@@ -21,13 +22,13 @@ evaluate-requires c κs = let d = c .before .before in ready-few (parsed 64 64 (
 substitute-requires : tie.Need-substitute-requires
 substitute-requires c κs =
     let d = c .before .before .before in
-    subst⁻¹ (λ (x : List ℕ). Upward 6 x) (c .evaluate .ensures .1) (ready-upward _ _ (parsed 64 64 (d .args .s .now) 0) (d .pre .0))
+    subst⁻¹ (λ (x : List ℕ). Upward mostParts x) (c .evaluate .ensures .1) (ready-upward _ _ (parsed 64 64 (d .args .s .now) 0) (d .pre .0))
 
 returns : tie.Need-returns
 returns c =
     let d = c .before .before .before .before in
     let a = d .args in
-    c .substitute .ensures ∙ ap (λ (x : List ℕ). substituted 6 x (a .r)) (c .before .evaluate .ensures .1)
+    c .substitute .ensures ∙ ap (λ (x : List ℕ). substituted mostParts x (a .r)) (c .before .evaluate .ensures .1)
     ∙ next-answers _ (parsed 64 64 (a .s .now) 0) (d .pre .0) (a .r)
     ∙ ap (λ (m : Option ℕ). progressedOf (parsed 64 64 (a .s .now) 0) (a .r) (record { state = a .state; made = m })) (made-is (a .action) (d .pre .1))
 

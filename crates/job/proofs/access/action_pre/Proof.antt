@@ -6,7 +6,7 @@ use Rattle.job.proofs.access.action_pre.Tie as tie
 
 returns : tie.Need-returns
 unfolding actionAt
-returns c = rw (c .before .action-offset .ensures) at (c .get64 .ensures)
+returns c = c .action-set .ensures
 
 pub action-pre-spec : {M : Type 1} → statement M
-action-pre-spec = tie.close (tie.spec (λ c κs. search needs) (λ c κs. search needs) returns)
+action-pre-spec = tie.close (tie.spec (λ c κs. search needs) returns)

@@ -1,12 +1,11 @@
 -- `right_length` tests the task section's length against the number of actions, and a formula's against 1 and 128.
-use mathlib.Core.Path.{_∙_}
 use borrow.Author.Needs.{needs}
 use Rattle.job.proofs.PairLaws.{length-task, length-none, length-some}
 use Rattle.job.proofs.pairs.right_length.Statement.{statement}
 use Rattle.job.proofs.pairs.right_length.Tie as tie
 
 returns : tie.Need-returns
-returns c = length-task _ _ _ (c .before .before .if1 .taken) (c .wide .ensures .0 ∙ c .before .action-count .ensures)
+returns c = length-task _ _ _ (c .before .if1 .taken) (c .task-bytes .ensures)
 
 returns-2 : tie.Need-returns-2
 returns-2 c = length-none _ _ _ (c .before .if1 .left) (c .if2 .taken)
@@ -19,9 +18,6 @@ right-length-spec =
     tie.close
     (tie.spec
     (λ c κs. search needs)
-    (λ c κs. search needs)
-    (λ c. search needs)
-    (λ c. search needs)
     returns
     returns-2
     returns-3)

@@ -1,89 +1,83 @@
--- `check_action` checks an action's three sets, which lie inside the bytes, one after the other.
+-- `check_action` passes sets while their checks are fine: the invariant. The first that refuses decides.
 use mathlib.Core.Path.{_≡_}
-use Prim.Native.Nat.{_+_, _≤_}
+use Prim.Native.Nat.{ℕ, _≤_, _-_}
 use native.Mathlib.Omega.{arith}
-use lib.ListN.{length}
+use mathlib.Core.List.{List}
 use borrow.Author.Needs.{needs}
+use Rattle.model.specs.declared.Verdict.{Verdict}
 use Rattle.model.specs.declared.Verdict.the-variants.{Fine}
+use Rattle.model.specs.Verdict.{inTurn}
+use Rattle.model.specs.job.Layout.{setCount, setOffset}
 use Rattle.model.specs.job.Decoding.{setVerdict, actionVerdict}
-use Rattle.model.specs.job.Layout.{actionOffset}
-use Rattle.job.proofs.TurnLaws.{refused, fine, after}
-use Rattle.job.proofs.Bounds.{task-pair, action-inside}
+use Rattle.job.specs.Laid.{ActionThere}
+use Rattle.job.proofs.TurnLaws.{refused-at, fine-at, none-yet, all-fine}
+use Rattle.job.proofs.Bounds.{action-there, set-inside}
 use Rattle.job.proofs.task.check_action.Statement.{statement}
 use Rattle.job.proofs.task.check_action.Tie as tie
 
--- the action lies inside the bytes
-inside : (c : tie.After-action-offset) → c .action-offset .result + 26 ≤ length (c .before .before .args .bytes .now)
-inside c =
-    let p = c .before .before .pre in
-    omega (arith, action-inside (p .0) (c .before .before .args .i) (p .1), c .action-offset .ensures)
+-- the check of set k of action i
+abbrev setChecked : List ℕ → ℕ → ℕ → Verdict
+setChecked bytes i k = setVerdict bytes (setOffset bytes i k)
 
--- what `check_set` answered of the action's first and second set
-pre-set : (c : tie.After-check-set)
-    → (let a = c .before .before .before .args in c .check-set .result ≡ setVerdict (a .bytes .now) (actionOffset (a .bytes .now) (a .i)))
-pre-set c = rw (c .before .action-offset .ensures) at (c .check-set .ensures)
+abbrev Inv-loop : tie.InvT-loop
+Inv-loop bytes i k₀ k = (k ≤ setCount) × (inTurn k (setChecked bytes i) ≡ Fine)
 
-pre-fine : (c : tie.Else1)
-    → (let a = c .before .before .before .before .before .args in setVerdict (a .bytes .now) (actionOffset (a .bytes .now) (a .i)) ≡ Fine)
-pre-fine c = fine _ (pre-set (c .before .before)) (c .before .refuses .ensures) (c .if1 .left)
+abbrev μ-loop : tie.MeasureT-loop
+μ-loop bytes i k₀ k = setCount - k
 
-add-set : (c : tie.After-check-set2)
-    → (let a = c .before .before .before .before .before .before .args in
-    c .check-set2 .result ≡ setVerdict (a .bytes .now) (actionOffset (a .bytes .now) (a .i) + 8))
-add-set c = rw (c .before .before .before .before .action-offset .ensures) at (c .check-set2 .ensures)
+loop-holds : tie.Need-loop-holds Inv-loop μ-loop
+loop-holds c = (omega arith, none-yet _)
 
-add-fine : (c : tie.Else2)
-    → (let a = c .before .before .before .before .before .before .before .before .args in
-    setVerdict (a .bytes .now) (actionOffset (a .bytes .now) (a .i) + 8) ≡ Fine)
-add-fine c = fine _ (add-set (c .before .before)) (c .before .refuses2 .ensures) (c .if2 .left)
+-- The bytes of the action are there.
+there : (c : tie.In-loop Inv-loop μ-loop) → (let a = c .before .before .before .args in ActionThere (a .bytes .now) (a .i))
+there c = let p = c .before .before .before .pre in action-there (p .0) _ (p .1)
 
-action-offset-requires : tie.Need-action-offset-requires
-action-offset-requires c κs = (task-pair (c .before .pre .0), action-inside (c .before .pre .0) _ (c .before .pre .1))
+-- what `check_set` answered of the set
+checked : (c : tie.After-check-set Inv-loop μ-loop)
+    → (let a = c .before .before .before .before .before .args in c .check-set .result ≡ setChecked (a .bytes .now) (a .i) (c .before .before .before .loop .k))
+checked c = rw (c .before .set-offset .ensures) at (c .check-set .ensures)
 
-check-set-requires : tie.Need-check-set-requires
-check-set-requires c κs = (c .before .before .pre .0, omega (arith, inside c))
+set-offset-requires : tie.Need-set-offset-requires Inv-loop μ-loop
+set-offset-requires c κs = (there c, omega arith)
 
-returns : tie.Need-returns
+check-set-requires : tie.Need-check-set-requires Inv-loop μ-loop
+check-set-requires c κs =
+    let d = c .before in
+    (d .before .before .before .pre .0, omega (arith, c .set-offset .ensures, set-inside (there d) (d .before .loop .k) (omega arith)))
+
+returns : tie.Need-returns Inv-loop μ-loop
 unfolding actionVerdict
-returns c = refused _ _ _ (pre-set (c .before .before)) (c .before .refuses .ensures) (c .if1 .taken)
+returns c =
+    let d = c .before .before in
+    let l = d .before .before .before in
+    let a = l .before .before .args in
+    refused-at (setChecked (a .bytes .now) (a .i)) setCount (l .loop .k) _ (l .loop .inv .1) (checked d) (c .before .refuses .ensures) (c .if1 .taken)
+    (omega arith)
 
-add-check-set : tie.Need-add-check-set
-add-check-set c = omega (arith, inside (c .before .before .before))
+loop-again : tie.Need-loop-again Inv-loop μ-loop
+loop-again c =
+    let d = c .before .before in
+    (omega arith, fine-at (setChecked _ _) _ _ (d .before .before .before .loop .inv .1) (checked d) (c .before .refuses .ensures) (c .if1 .left))
 
-check-set-requires-2 : tie.Need-check-set-requires-2
-check-set-requires-2 c κs = (c .before .before .before .before .before .pre .0, omega (arith, inside (c .before .before .before)))
-
-returns-2 : tie.Need-returns-2
+returns-2 : tie.Need-returns-2 Inv-loop μ-loop
 unfolding actionVerdict
 returns-2 c =
-    after _ _ _ (pre-fine (c .before .before .before))
-    (refused _ _ _ (add-set (c .before .before)) (c .before .refuses2 .ensures) (c .if2 .taken))
-
-add-check-set-2 : tie.Need-add-check-set-2
-add-check-set-2 c = omega (arith, inside (c .before .before .before .before .before .before))
-
-check-set-requires-3 : tie.Need-check-set-requires-3
-check-set-requires-3 c κs = let d = c .before .before .before .before .before .before in (d .before .before .pre .0, omega (arith, inside d))
-
-returns-3 : tie.Need-returns-3
-unfolding actionVerdict
-returns-3 c =
-    after _ _ _ (pre-fine (c .before .before .before .before))
-    (after _ _ _ (add-fine (c .before))
-    (rw (c .before .before .before .before .before .before .before .action-offset .ensures) at (c .check-set3 .ensures)))
+    let l = c .before in
+    let a = l .before .before .args in
+    all-fine (setChecked (a .bytes .now) (a .i)) setCount (l .loop .k) (l .loop .inv .1) (omega arith)
 
 pub check-action-spec : {M : Type 1} → statement M
 check-action-spec =
     tie.close
     (tie.spec
-    action-offset-requires
+    Inv-loop
+    μ-loop
+    loop-holds
+    set-offset-requires
     check-set-requires
     (λ c κs. search needs)
     returns
-    add-check-set
-    check-set-requires-2
-    (λ c κs. search needs)
-    returns-2
-    add-check-set-2
-    check-set-requires-3
-    returns-3)
+    (λ c. search needs)
+    (λ c. search needs)
+    loop-again
+    returns-2)

@@ -35,7 +35,7 @@ returns : tie.Need-returns Inv-loop μ-loop
 returns c = small-workspace (c .before .before .before .args .work .now) (omega arith)
 
 pair-count-requires : tie.Need-pair-count-requires Inv-loop μ-loop
-pair-count-requires c κs = accepted-laid _ (start c .pre .0) .head
+pair-count-requires c κs = accepted-laid _ (start c .pre .0) .head .whole
 
 loop-holds : tie.Need-loop-holds Inv-loop μ-loop
 loop-holds c = (omega arith, refl, begun-none _ (start (c .before) .pre .1))

@@ -6,6 +6,7 @@ use Prim.Native.Nat.{ℕ, _<_, _≤_, _-_, _+_}
 use lib.ListN.{length, getD}
 use borrow.Fn.Kinds.{In}
 use borrow.Fn.PlainCycle.{Measures, is, falls, and}
+use Rattle.model.specs.logic.Parts.{mostParts}
 use Rattle.model.specs.declared.Code.{Code}
 use Rattle.model.specs.declared.Code.the-variants.{Fact, Action}
 use Rattle.model.specs.logic.Formula.{Formula, fact, action}
@@ -100,8 +101,8 @@ module _ (t : ℕ) where
       let d = c .before .before .before in
       subst (λ (p : Parsed). Few p (d .args .under) (d .args .n)) (told c k e) (d .pre .1)
 
-  -- the numbers inside are among the six
-  pub room : (c : Coded) → (let a = c .before .before .before .args in let b = carries (c .code-of .result) in after b (starts (a .under) b (a .n)) ≤ 6)
+  -- the numbers inside are those of unknowns
+  pub room : (c : Coded) → (let a = c .before .before .before .args in let b = carries (c .code-of .result) in after b (starts (a .under) b (a .n)) ≤ mostParts)
   room c =
       let a = c .before .before .before .args in
       let k : Code = c .code-of .result in
@@ -128,8 +129,8 @@ module _ (t : ℕ) where
   pub part-is : (h : Here) (k : Code) → coded h .code-of .result ≡ k → h .before .before .is-part .result ≡ coded h .before .before .before .args .under || carries k
   part-is h k e = h .before .before .is-part .ensures ∙ ap (λ (j : Code). coded h .before .before .before .args .under || carries j) e
 
-  -- a part's number is among the six
-  pub below : (h : Here) → h .before .before .is-part .result ≡ true → coded h .before .before .before .args .n < 6
+  -- a part's number is that of an unknown
+  pub below : (h : Here) → h .before .before .is-part .result ≡ true → coded h .before .before .before .args .n < mostParts
   below h e =
       let a = coded h .before .before .before .args in
       part-below (a .under) (carries (coded h .code-of .result)) (a .n) (room (coded h)) (sym (h .before .before .is-part .ensures) ∙ e)

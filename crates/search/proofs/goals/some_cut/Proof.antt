@@ -5,6 +5,7 @@ use Prim.Native.Nat.{_≤_, _-_}
 use native.Mathlib.Omega.{arith}
 use lib.ListN.{drop}
 use borrow.Author.Needs.{needs}
+use Rattle.model.specs.search.Query.{query}
 use Rattle.dijkstra.specs.Search.{someCutIn}
 use Rattle.table.proofs.LookupLaws.{length-first, first-at}
 use Rattle.paths.specs.Chain.{held}
@@ -14,7 +15,8 @@ use Rattle.search.proofs.goals.some_cut.Statement.{statement}
 use Rattle.search.proofs.goals.some_cut.Tie as tie
 
 abbrev Inv-loop : tie.InvT-loop
-Inv-loop job t n i₀ i = (someCutIn (sys job) (map (heldIs job) (held t n)) ≡ someCutIn (sys job) (map (heldIs job) (drop i (held t n)))) × (i ≤ n)
+Inv-loop job t n i₀ i = (someCutIn (sys (query job)) (map (heldIs (query job)) (held t n)) ≡ someCutIn (sys (query job))
+    (map (heldIs (query job)) (drop i (held t n)))) × (i ≤ n)
 
 abbrev μ-loop : tie.MeasureT-loop
 μ-loop job t n i₀ i = n - i
@@ -27,20 +29,27 @@ unfolding heldIn
 returns c =
     let s = c .before .before .before .before .before .before in
     let l = c .before .before .before .loop in
-    cut-here (s .args .job .now) (held (s .args .t .now) (s .args .n)) (l .i) _ _ (l .inv .0) (first-at (s .args .t .now) (s .args .n) (l .i) (omega arith)) (c .before .slot-cut .ensures) (omega (arith, length-first (s .args .t .now) (s .args .n) (s .pre .1))) (c .if1 .taken)
+    cut-here (query (s .args .job .now)) (held (s .args .t .now) (s .args .n)) (l .i) _ _ (l .inv .0)
+    (first-at (s .args .t .now) (s .args .n) (l .i) (omega arith)) (c .before .slot-cut .ensures)
+    (omega (arith, length-first (s .args .t .now) (s .args .n) (s .pre .1))) (c .if1 .taken)
 
 loop-again : tie.Need-loop-again Inv-loop μ-loop
 loop-again c =
     let s = c .before .before .before .before .before .before in
-    let l = c .before .before .before .loop in
-    (cut-on (s .args .job .now) (held (s .args .t .now) (s .args .n)) (l .i) _ _ (l .inv .0) (first-at (s .args .t .now) (s .args .n) (l .i) (omega arith)) (c .before .slot-cut .ensures) (omega (arith, length-first (s .args .t .now) (s .args .n) (s .pre .1))) (c .if1 .left), omega arith)
+    let l = c .before .before .before .loop in (
+      cut-on (query (s .args .job .now)) (held (s .args .t .now) (s .args .n)) (l .i) _ _ (l .inv .0)
+          (first-at (s .args .t .now) (s .args .n) (l .i) (omega arith)) (c .before .slot-cut .ensures)
+          (omega (arith, length-first (s .args .t .now) (s .args .n) (s .pre .1))) (c .if1 .left),
+      omega arith,
+    )
 
 returns-2 : tie.Need-returns-2 Inv-loop μ-loop
 unfolding heldIn
 returns-2 c =
     let s = c .before .before .before .before in
     let l = c .before .loop in
-    cut-end (s .args .job .now) (held (s .args .t .now) (s .args .n)) (l .i) (l .inv .0) (omega (arith, length-first (s .args .t .now) (s .args .n) (s .pre .1)))
+    cut-end (query (s .args .job .now)) (held (s .args .t .now) (s .args .n)) (l .i) (l .inv .0)
+    (omega (arith, length-first (s .args .t .now) (s .args .n) (s .pre .1)))
 
 pub some-cut-spec : {M : Type 1} → statement M
 some-cut-spec =

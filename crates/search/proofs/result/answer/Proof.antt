@@ -1,6 +1,7 @@
 -- `answer` hands back what the search in the table came to.
 use borrow.Author.Needs.{needs}
 use Rattle.model.specs.calls.Search.{slotsIn}
+use Rattle.model.specs.search.Query.{query}
 use Rattle.dijkstra.specs.Search.{searchIn}
 use Rattle.held.specs.Held.{sys}
 use Rattle.search.specs.declared.Ended.the-variants.{Goal}
@@ -10,8 +11,9 @@ use Rattle.search.proofs.result.answer.Statement.{statement}
 use Rattle.search.proofs.result.answer.Tie as tie
 
 -- The goal that was found.
-found : (c : tie.After-g)
-    → EndsAs (c .before .before .before .before .searched .last .1 .0) (Goal (c .g .given .0 .0) (c .g .given .0 .1 .0)) (searchIn (sys (c .before .before .before .before .before .before .before .before .before .args .job .now)) (slotsIn (c .before .before .before .before .before .before .before .before .before .args .table .now)))
+found : (c : tie.After-g) → let s = c .before .before .before .before .before .before .before .before .before .args in
+    EndsAs (c .before .before .before .before .searched .last .1 .0) (Goal (c .g .given .0 .0) (c .g .given .0 .1 .0))
+    (searchIn (sys (query (s .job .now))) (slotsIn (s .table .now)))
 found c = rw (c .g .given .1) at (c .before .before .before .before .searched .ensures)
 
 hand-over-requires : tie.Need-hand-over-requires

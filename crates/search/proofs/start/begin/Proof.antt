@@ -1,5 +1,6 @@
 -- `begin` makes the start table.
 use borrow.Author.Needs.{needs}
+use Rattle.model.specs.search.Query.{query}
 use Rattle.search.proofs.StartLaws.{begun}
 use Rattle.search.proofs.start.begin.Statement.{statement}
 use Rattle.search.proofs.start.begin.Tie as tie
@@ -23,7 +24,7 @@ returns c =
     let g = judged x in
     let h = hinted g in
     let s = start h in (
-      begun (s .args .job .now) (s .args .t .now) (x .store .last .0) (s .args .node) _ _ (s .pre .1) (h .start-hints .ensures) (g .is-goal .ensures .0)
+      begun (query (s .args .job .now)) (s .args .t .now) (x .store .last .0) (s .args .node) _ _ (s .pre .1) (h .start-hints .ensures) (g .is-goal .ensures .0)
           (x .store .ensures) (s .pre .2),
       g .is-goal .ensures .1,
     )

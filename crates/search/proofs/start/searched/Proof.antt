@@ -8,6 +8,7 @@ use borrow.Author.Needs.{needs}
 use Rattle.model.specs.calls.Search.{slotsIn}
 use Rattle.model.specs.job.Layout.{constraintCount, jobOf}
 use Rattle.model.specs.search.JobSystem.{startNode}
+use Rattle.model.specs.search.Query.{query}
 use Rattle.dijkstra.specs.Search.{searchIn}
 use Rattle.nodes.specs.Meaning.{nodeIs}
 use Rattle.nodes.proofs.Arrivals.{leads-some, leads-none}
@@ -42,14 +43,14 @@ returns : tie.Need-returns
 returns c =
     let f = c .before .before in
     let s = start f .args in
-    search-none (sys (s .job .now)) (slotsIn (s .t .now)) (leads-none (f .start .ensures) (not-true _ (c .if1 .taken)))
+    search-none (sys (query (s .job .now))) (slotsIn (s .t .now)) (leads-none (f .start .ensures) (not-true _ (c .if1 .taken)))
 
 returns-2 : tie.Need-returns-2
 returns-2 c =
     let k = c .before in
     let e = alive k in
     let s = start (first e) .args in
-    search-small (sys (s .job .now)) (slotsIn (s .t .now)) (starts e) (sym (k .capacity .ensures .0) ∙ c .if2 .taken)
+    search-small (sys (query (s .job .now))) (slotsIn (s .t .now)) (starts e) (sym (k .capacity .ensures .0) ∙ c .if2 .taken)
 
 in-workspace-requires : tie.Need-in-workspace-requires
 in-workspace-requires c κs =
@@ -69,7 +70,7 @@ returns-3 c =
     let w = c .before .before in
     let k = counted (w .before) in
     let s = start (first (alive k)) .args in
-    subst (λ (n : ℕ). EndsAs (w .in-workspace .last .1 .0) (w .in-workspace .result) (searchIn (sys (s .job .now)) n))
+    subst (λ (n : ℕ). EndsAs (w .in-workspace .last .1 .0) (w .in-workspace .result) (searchIn (sys (query (s .job .now))) n))
     (k .capacity .ensures .0) (w .in-workspace .ensures)
 
 pub searched-spec : {M : Type 1} → statement M

@@ -5,6 +5,7 @@ use native.Mathlib.Numerals.{add-one}
 use native.Mathlib.Omega.{arith}
 use lib.ListN.{length}
 use borrow.Author.Needs.{needs}
+use Rattle.model.specs.search.Query.{Query, query}
 use Rattle.dijkstra.specs.Search.{turns}
 use Rattle.held.specs.Held.{sys, heldIn}
 use Rattle.held.specs.Running.{Idle}
@@ -15,7 +16,8 @@ use Rattle.search.proofs.turns.run.Tie as tie
 
 abbrev Inv-loop : tie.InvT-loop
 Inv-loop job work₀ t₀ places n₀ left₀ work t n left =
-    Idle job places n t × (turns (sys job) places left (heldIn job n t) ≡ turns (sys job) places (suc places) (heldIn job 1 t₀)) × (length t ≡ length t₀)
+    let q : Query = query job in
+    Idle q places n t × (turns (sys q) places left (heldIn q n t) ≡ turns (sys q) places (suc places) (heldIn q 1 t₀)) × (length t ≡ length t₀)
     × Workspace job work × (length work ≡ length work₀)
 
 abbrev μ-loop : tie.MeasureT-loop
@@ -38,7 +40,8 @@ loop-holds : tie.Need-loop-holds Inv-loop μ-loop
 loop-holds c =
     let s = c .before .before .before in (
       s .pre .0,
-      ap (λ (k : ℕ). turns (sys (s .args .job .now)) (s .args .places) k (heldIn (s .args .job .now) 1 (s .args .t .now))) (add-one (s .args .places)),
+      ap (λ (k : ℕ). turns (sys (query (s .args .job .now))) (s .args .places) k (heldIn (query (s .args .job .now)) 1 (s .args .t .now)))
+          (add-one (s .args .places)),
       refl,
       s .pre .1,
       refl,
@@ -51,8 +54,8 @@ loop-again c =
     let s = start (looped x) .args in
     let u = x .turn .last .1 .1 .0 in
     let m = c .before .m .given in (
-      turn-idle (s .job .now) (s .places) (l .n) (l .t) u (x .turn .result) (m .0 .0) (x .turn .ensures .0) (m .1),
-      turn-again (s .job .now) (s .places) (l .n) (l .t) (l .left) (l .left - 1) (l .inv .1) u (x .turn .result) (m .0 .0) (x .turn .ensures .0) (m .1)
+      turn-idle (query (s .job .now)) (s .places) (l .n) (l .t) u (x .turn .result) (m .0 .0) (x .turn .ensures .0) (m .1),
+      turn-again (query (s .job .now)) (s .places) (l .n) (l .t) (l .left) (l .left - 1) (l .inv .1) u (x .turn .result) (m .0 .0) (x .turn .ensures .0) (m .1)
           (omega arith),
       search needs,
       x .turn .ensures .1,
@@ -64,14 +67,14 @@ returns c =
     let x = turned (c .before .before .before) in
     let l = looped x .loop in
     let s = start (looped x) .args in
-    turn-ends (s .job .now) (s .places) (l .n) (l .t) (l .left) (l .left - 1) (l .inv .1) (x .turn .last .1 .1 .0) (x .turn .result)
+    turn-ends (query (s .job .now)) (s .places) (l .n) (l .t) (l .left) (l .left - 1) (l .inv .1) (x .turn .last .1 .1 .0) (x .turn .result)
     (c .before .e .given .0 .0) (x .turn .ensures .0) (c .before .e .given .1) (omega arith)
 
 returns-2 : tie.Need-returns-2 Inv-loop μ-loop
 returns-2 c =
     let l = c .before .loop in
     let s = start (c .before) .args in
-    turns-over (s .job .now) (s .places) (l .n) (l .t) (l .left) 0 (l .inv .1) (omega arith)
+    turns-over (query (s .job .now)) (s .places) (l .n) (l .t) (l .left) 0 (l .inv .1) (omega arith)
 
 pub run-spec : {M : Type 1} → statement M
 run-spec =

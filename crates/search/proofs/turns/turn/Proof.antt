@@ -1,8 +1,9 @@
 -- `turn` ends where no slot is open.
 use borrow.Author.Needs.{needs}
+use Rattle.model.specs.search.Query.{query}
 use Rattle.table.proofs.LookupLaws.{least-inside}
 use Rattle.held.proofs.Lookup.{least-at, least-nothing}
-use Rattle.search.proofs.TurnLaws.{nothing-ends}
+use Rattle.search.proofs.TurnLaws.{idle-room, nothing-ends}
 use Rattle.search.proofs.turns.turn.Statement.{statement}
 use Rattle.search.proofs.turns.turn.Tie as tie
 
@@ -27,7 +28,8 @@ turn-at-requires c κs =
       s .pre .0,
       record {
         inside = least-inside (s .args .t .now) (s .args .n) _ _ (x .least .ensures) (i .i .given .1);
-        least = least-at (s .args .job .now) (s .args .n) (s .args .t .now) (x .least .ensures) (i .i .given .1);
+        least = least-at (query (s .args .job .now)) (s .args .n) (s .args .t .now) (s .pre .0 .1 .sound) (idle-room (s .pre .0)) (x .least .ensures)
+            (i .i .given .1);
       },
       s .pre .1,
     )
@@ -37,8 +39,9 @@ returns-2 c =
     let e = c .before .before in
     let x = nothing e in
     let s = start x .args in (
-      nothing-ends (s .job .now) (s .places) (s .n) (s .t .now)
-          (least-nothing (s .job .now) (s .n) (s .t .now) (x .least .ensures) (e .enum-told .given .1)) (c .refusal .ensures),
+      nothing-ends (query (s .job .now)) (s .places) (s .n) (s .t .now)
+          (least-nothing (query (s .job .now)) (s .n) (s .t .now) (start x .pre .0 .1 .sound) (idle-room (start x .pre .0)) (x .least .ensures)
+          (e .enum-told .given .1)) (c .refusal .ensures),
       start x .pre .1,
     )
 

@@ -1,4 +1,4 @@
--- `turn_at` ends at a goal of the least key, and takes the slot if there is none.
+-- `turn_at` ends at a goal whose key is the least rank, and takes the slot if there is none.
 use borrow.Author.Needs.{needs}
 use Rattle.search.proofs.TurnLaws.{idle-room, idle-chained, none-takes, goal-ends}
 use Rattle.search.proofs.turns.turn_at.Statement.{statement}
@@ -6,10 +6,10 @@ use Rattle.search.proofs.turns.turn_at.Tie as tie
 
 -- ---- places
 
-abbrev start : tie.After-cost → tie.Start
+abbrev start : tie.After-estimated-cost → tie.Start
 start c = c .before .before .before .before .before
 
-abbrev cost : tie.After-steps → tie.After-cost
+abbrev cost : tie.After-steps → tie.After-estimated-cost
 cost c = c .before .before
 
 abbrev steps : tie.After-first-goal → tie.After-steps
@@ -27,7 +27,7 @@ take-requires c κs =
     let s = steps g in
     let k = cost s in
     let p = start k .pre in
-    (none-takes (p .0) (p .1) _ _ (k .cost .ensures .0) (s .steps .ensures .0) _ (g .first-goal .ensures) (e .enum-told .given .1), p .2)
+    (none-takes (p .0) (p .1) _ _ (k .estimated-cost .ensures) (s .steps .ensures .0) _ (g .first-goal .ensures) (e .enum-told .given .1), p .2)
 
 returns : tie.Need-returns
 returns c =
@@ -35,7 +35,7 @@ returns c =
     let s = steps g in
     let k = cost s in
     let p = start k .pre in
-    (goal-ends (p .0) (p .1) _ _ (k .cost .ensures .0) (s .steps .ensures .0) _ (g .first-goal .ensures) _ (c .before .g .given .1), p .2)
+    (goal-ends (p .0) (p .1) _ _ (k .estimated-cost .ensures) (s .steps .ensures .0) _ (g .first-goal .ensures) _ (c .before .g .given .1), p .2)
 
 pub turn-at-spec : {M : Type 1} → statement M
 turn-at-spec =

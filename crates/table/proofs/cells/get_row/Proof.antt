@@ -5,17 +5,17 @@ use mathlib.Core.List.{_++_, append-nil}
 use Prim.Native.Nat.{_+_, _*_, _≤_, _-_}
 use lib.ListN.{drop, replicate}
 use Rattle.model.specs.job.Job.{listOf}
-use Rattle.table.specs.Cells.{word, row}
+use Rattle.table.specs.Cells.{word, row, rowWords}
 use Rattle.table.proofs.CellLaws.{listOf-more}
 use borrow.Author.Needs.{needs}
 use Rattle.table.proofs.cells.get_row.Statement.{statement}
 use Rattle.table.proofs.cells.get_row.Tie as tie
 
 abbrev Inv-loop : tie.InvT-loop
-Inv-loop t i a₀ j₀ a j = (a ≡ listOf (λ k. word t (i * 20 + k)) j ++ drop j (replicate 20 0)) × (j ≤ 20)
+Inv-loop t i a₀ j₀ a j = (a ≡ listOf (λ k. word t (i * rowWords + k)) j ++ drop j (replicate rowWords 0)) × (j ≤ rowWords)
 
 abbrev μ-loop : tie.MeasureT-loop
-μ-loop t i a₀ j₀ a j = 20 - j
+μ-loop t i a₀ j₀ a j = rowWords - j
 
 loop-holds : tie.Need-loop-holds Inv-loop μ-loop
 unfolding listOf
@@ -29,7 +29,7 @@ loop-again c =
 returns : tie.Need-returns Inv-loop μ-loop
 unfolding row
 returns c =
-    let e : c .before .loop .j ≡ 20 = omega arith in
+    let e : c .before .loop .j ≡ rowWords = omega arith in
     rw (e, append-nil) at (c .before .loop .inv .0)
 
 pub get-row-spec : {M : Type 1} → statement M

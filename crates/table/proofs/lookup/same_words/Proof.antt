@@ -3,7 +3,7 @@ use native.Mathlib.Omega.{arith}
 use mathlib.Core.Path.{_≡_, refl}
 use Prim.Native.Nat.{_≤_, _-_}
 use lib.ListN.{drop}
-use Rattle.model.specs.search.Node.{sameNumbers}
+use Rattle.model.specs.search.Node.{sameNumbers, nodeWords}
 use Rattle.table.specs.Slots.{slotAt}
 use Rattle.table.proofs.LookupLaws.{node-on, node-not, node-end}
 use borrow.Author.Needs.{needs}
@@ -11,10 +11,10 @@ use Rattle.table.proofs.lookup.same_words.Statement.{statement}
 use Rattle.table.proofs.lookup.same_words.Tie as tie
 
 abbrev Inv-loop : tie.InvT-loop
-Inv-loop t i node j₀ j = (sameNumbers node (slotAt t i .node) ≡ sameNumbers (drop j node) (drop j (slotAt t i .node))) × (j ≤ 9)
+Inv-loop t i node j₀ j = (sameNumbers node (slotAt t i .node) ≡ sameNumbers (drop j node) (drop j (slotAt t i .node))) × (j ≤ nodeWords)
 
 abbrev μ-loop : tie.MeasureT-loop
-μ-loop t i node j₀ j = 9 - j
+μ-loop t i node j₀ j = nodeWords - j
 
 loop-holds : tie.Need-loop-holds Inv-loop μ-loop
 loop-holds c = (refl, omega arith)

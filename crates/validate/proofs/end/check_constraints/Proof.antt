@@ -27,7 +27,7 @@ abbrev μ-loop : tie.MeasureT-loop
 μ-loop job facts rs count i₀ i = count - i
 
 constraint-count-requires : tie.Need-constraint-count-requires Inv-loop μ-loop
-constraint-count-requires c κs = accepted-laid _ (c .before .pre) .head
+constraint-count-requires c κs = accepted-laid _ (c .before .pre) .head .whole
 
 -- the code's check is that of constraint i
 told : (c : tie.After-unless Inv-loop μ-loop)

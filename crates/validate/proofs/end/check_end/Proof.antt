@@ -6,7 +6,7 @@ use mathlib.Core.Bool.{Bool}
 use Rattle.model.specs.Verdict.{unless}
 use Rattle.model.specs.job.Layout.{jobOf}
 use Rattle.model.specs.task.State.{within}
-use Rattle.job.proofs.Bounds.{task-pair, task-inside}
+use Rattle.job.proofs.Bounds.{head-there}
 use Rattle.job.proofs.TurnLaws.{refused, fine, after}
 use Rattle.validate.specs.Walk.{endVerdict}
 use Rattle.nodes.proofs.Fields.{length-constraints}
@@ -15,7 +15,7 @@ use Rattle.validate.proofs.end.check_end.Statement.{statement}
 use Rattle.validate.proofs.end.check_end.Tie as tie
 
 goal-requires : tie.Need-goal-requires
-goal-requires c κs = let l = accepted-laid _ (c .before .pre) in (task-pair l, task-inside l)
+goal-requires c κs = head-there (accepted-laid _ (c .before .pre))
 
 -- the check of the goal
 told : (c : tie.After-unless)

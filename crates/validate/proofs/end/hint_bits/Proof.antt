@@ -24,10 +24,10 @@ abbrev μ-loop : tie.MeasureT-loop
 μ-loop job facts rs from bits₀ i₀ bits i = i
 
 constraint-count-requires : tie.Need-constraint-count-requires Inv-loop μ-loop
-constraint-count-requires c κs = accepted-laid _ (c .before .pre) .head
+constraint-count-requires c κs = accepted-laid _ (c .before .pre) .head .whole
 
 hint-count-requires : tie.Need-hint-count-requires Inv-loop μ-loop
-hint-count-requires c κs = accepted-laid _ (c .before .before .before .pre) .head
+hint-count-requires c κs = accepted-laid _ (c .before .before .before .pre) .head .whole
 
 -- the function's entry
 abbrev entry : tie.In-loop Inv-loop μ-loop → tie.Start Inv-loop μ-loop
@@ -66,7 +66,7 @@ with-bit-requires c κs =
     let s = entry d in
     let l = accepted-laid _ (s .pre) in
     bits-room (met (s .args .job .now) (s .args .t2) (s .args .facts)) (hintCount (s .args .job .now)) (d .before .loop .i) _
-    (d .before .loop .inv .1) (l .few-hints) (omega arith)
+    (d .before .loop .inv .1) (l .head .few-hints) (omega arith)
 
 loop-again : tie.Need-loop-again Inv-loop μ-loop
 loop-again c =

@@ -11,7 +11,7 @@ use Rattle.validate.proofs.walk.check_step.Statement.{statement}
 use Rattle.validate.proofs.walk.check_step.Tie as tie
 
 action-count-requires : tie.Need-action-count-requires
-action-count-requires c κs = accepted-laid _ (c .before .pre) .head
+action-count-requires c κs = accepted-laid _ (c .before .pre) .head .whole
 
 returns : tie.Need-returns
 returns c =
