@@ -5,15 +5,15 @@ use native.Mathlib.Omega.{arith}
 use native.Mathlib.Nat.{add-zero}
 use mathlib.Core.Bool.{Bool, true, false, _||_}
 use mathlib.Core.List.{List}
-use lib.Dec.{eqb}
 use borrow.Author.Tests.{eqb-true, eq-eqb, ne-eqb}
 use Rattle.model.specs.logic.Formula.{choose}
 use Rattle.model.specs.declared.Verdict.{Verdict}
-use Rattle.model.specs.Verdict.{orElse, inTurn}
-use Rattle.model.specs.job.Layout.{plainSets, allSets, actionCount, pairOffset, pairLength, taskBytes, forbids, setCount, actionOffset}
-use Rattle.model.specs.job.Layout.{setOffset, costOffset, actionAt, jobOf}
+use Rattle.model.specs.Bits.{numberAt}
+use Rattle.model.specs.Verdict.{orElse}
+use Rattle.model.specs.job.Layout.{setBytes, plainSets, allSets, actionCount, pairOffset, pairLength, taskBytes, forbids, setCount}
+use Rattle.model.specs.job.Layout.{setOffset, actionAt, jobOf}
 use Rattle.model.specs.job.Decoding.{rightLength, setVerdict, actionVerdict, taskVerdict}
-use Rattle.model.specs.job.OldForm.{oldOffset, oldAction, oldVerdict, OldForm}
+use Rattle.model.specs.job.OldForm.{oldAction, oldVerdict, OldForm}
 use Rattle.model.proofs.task.StateLaws.{nothing-forbidden}
 use Rattle.model.proofs.job.VerdictLaws.{inTurn-cong, listOf-cong}
 
@@ -34,6 +34,15 @@ module _ (bytes : List ℕ) where
   pub sets-plain : forbids bytes ≡ false → setCount bytes ≡ plainSets
   unfolding setCount
   sets-plain e = rw e
+
+  -- An action's forbidden facts are its fourth set, if there is one.
+  pub forbidden-some : (i : ℕ) → forbids bytes ≡ true → actionAt bytes i .forbidden ≡ numberAt setBytes bytes (setOffset bytes i 3)
+  unfolding actionAt
+  forbidden-some i e = ap (λ (b : Bool). choose b (numberAt setBytes bytes (setOffset bytes i 3)) 0) e
+
+  pub forbidden-none : (i : ℕ) → forbids bytes ≡ false → actionAt bytes i .forbidden ≡ 0
+  unfolding actionAt
+  forbidden-none i e = ap (λ (b : Bool). choose b (numberAt setBytes bytes (setOffset bytes i 3)) 0) e
 
   -- A task of a right length has as many bytes as its actions fill.
   pub task-length : rightLength bytes 0 (pairLength bytes 0) ≡ true → pairLength bytes 0 ≡ taskBytes bytes (setCount bytes)
