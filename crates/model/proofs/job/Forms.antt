@@ -60,7 +60,7 @@ module _ (bytes : List ℕ) where
 -- ---- the old length
 module _ (bytes : List ℕ) (old : pairLength bytes 0 ≡ 16 + 26 * actionCount bytes) where
   -- The two lengths differ where there is an action.
-  pub old-plain : 0 < actionCount bytes → forbids bytes ≡ false
+  old-plain : 0 < actionCount bytes → forbids bytes ≡ false
   unfolding forbids taskBytes
   old-plain l = ne-eqb (pairLength bytes 0) (16 + 34 * actionCount bytes) (λ e. omega (arith, old))
 

@@ -1,6 +1,6 @@
 -- What the definitions of states say of each fact.
 use mathlib.Core.Path.{_≡_, refl, sym, ap, ap₂, _∙_}
-use Prim.Native.Nat.{ℕ, zero, suc, _+_, _-_, _^_, _<_}
+use Prim.Native.Nat.{ℕ, zero, suc, _+_, _-_, _^_, _≤_, _<_}
 use native.Mathlib.Nat.{pow-suc, lt-of-lt-of-le}
 use native.Mathlib.Omega.{arith}
 use mathlib.Core.Bool.{Bool, true, false, not, _&&_, _||_, true≢false}
@@ -24,13 +24,18 @@ below : (x n : ℕ) → x < n → x < 2 ^ n
 below x n h = let l : x < 2 ^ x = lt-pow x in let m : 2 ^ x < 2 ^ n = lt-of-lt-of-le (omega (arith, pow-suc 2 x)) (pow-mono h) in omega arith
 
 module _ (xs ys : ℕ) where
+  -- the facts in common, told by their bits
+  in-common : (zs : ℕ) → zs ≤ xs → ((i : ℕ) → bit xs i && bit ys i ≡ bit zs i) → bitAnd xs ys ≡ zs
+  in-common zs l h =
+      bits-ext (suc xs) (bitAnd xs ys) zs (below (bitAnd xs ys) (suc xs) (omega (arith, and-le-l xs ys))) (below zs (suc xs) (omega arith))
+      (λ i m. bit-and xs ys i ∙ h i)
+
   -- every fact of xs is one of ys
   pub within-facts : (within xs ys ≡ true) ↔ ((i : ℕ) → bit xs i ≡ true → bit ys i ≡ true)
   unfolding within
   within-facts = (
     λ e i h. and-right (bit xs i) (bit ys i) (sym (bit-and xs ys i) ∙ ap (λ (x : ℕ). bit x i) (eqb-true (bitAnd xs ys) xs e) ∙ h),
-    λ f. eq-eqb (bitAnd xs ys) xs (bits-ext (suc xs) (bitAnd xs ys) xs (below (bitAnd xs ys) (suc xs) (omega (arith, and-le-l xs ys))) (below xs (suc xs) (omega arith))
-        (λ i l. bit-and xs ys i ∙ both (bit xs i) (bit ys i) (f i))),
+    λ f. eq-eqb (bitAnd xs ys) xs (in-common xs (omega arith) (λ i. both (bit xs i) (bit ys i) (f i))),
   )
     where
       and-right : (a b : Bool) → a && b ≡ true → b ≡ true
@@ -47,8 +52,7 @@ module _ (xs ys : ℕ) where
   unfolding apart
   apart-facts = (
     λ e i h. not-both (bit xs i) (bit ys i) (sym (bit-and xs ys i) ∙ ap (λ (x : ℕ). bit x i) (eqb-true (bitAnd xs ys) 0 e) ∙ bit-zero i) h,
-    λ f. eq-eqb (bitAnd xs ys) 0 (bits-ext (suc xs) (bitAnd xs ys) 0 (below (bitAnd xs ys) (suc xs) (omega (arith, and-le-l xs ys))) (below 0 (suc xs) (omega arith))
-        (λ i l. bit-and xs ys i ∙ neither (bit xs i) (bit ys i) (f i) ∙ sym (bit-zero i))),
+    λ f. eq-eqb (bitAnd xs ys) 0 (in-common 0 (omega arith) (λ i. neither (bit xs i) (bit ys i) (f i) ∙ sym (bit-zero i))),
   )
     where
       not-both : (a b : Bool) → a && b ≡ false → a ≡ true → b ≡ false

@@ -67,7 +67,7 @@ module _ (bytes : List ℕ) where
   sectionBytes i = take (pairLength i) (drop (pairOffset i) bytes)
 
   -- "Task section, exactly 16 + 26 × A bytes: start (64 bits, bit i is fact i), goal, then per step: needed, added, deleted (64 bits each),
-  -- cost (16 bits)." It is section 0; its length where each action has so many sets
+  -- cost (16 bits)." It is section 0. Where each action has so many sets, it has this length.
   unfoldable pub taskBytes : ℕ → ℕ
   unfolding actionCount
   taskBytes sets = taskHead + actionBytes sets * actionCount

@@ -1,5 +1,4 @@
 -- `task_length` tests the length of actions without forbidden facts, and then that of actions with them.
-use native.Mathlib.Omega.{arith}
 use borrow.Author.Needs.{needs}
 use Rattle.job.proofs.PairLaws.{length-plain, length-all}
 use Rattle.job.proofs.pairs.task_length.Statement.{statement}
