@@ -128,7 +128,7 @@ class Comparison:
 
     def enumeration(self, data, job):
         """All short lists of the job, if they decide what a search must give."""
-        if job.hints and not all(s[3] for s in job.steps):
+        if job.hints and not all(s.cost for s in job.steps):
             return None
         lists = Enumeration(job, formula_bytes(data))
         return lists if lists.decides() else None

@@ -21,7 +21,7 @@ class Enumeration:
                     self.found(cost, plan)
             enumerated += len(lists)
             self.length += 1
-            lists = [(cost + job.steps[s][3], plan + (s,), job.after(s, facts)) for cost, plan, facts in lists for s in range(len(job.steps))
+            lists = [(cost + job.steps[s].cost, plan + (s,), job.after(s, facts)) for cost, plan, facts in lists for s in range(len(job.steps))
                      if job.applicable(s, facts)]
         if not lists:
             self.length = float("inf")
@@ -38,7 +38,7 @@ class Enumeration:
         each step costs 1 or more, lists that are longer than the least cost cost more."""
         if not self.job.hints:
             return True
-        seen = self.best is not None and all(s[3] for s in self.job.steps) and self.best[0] <= self.length
+        seen = self.best is not None and all(s.cost for s in self.job.steps) and self.best[0] <= self.length
         every = (1 << len(self.job.hints)) - 1
         return seen and all(self.job.read_through(plan)[1] == every for plan in self.cheapest)
 
