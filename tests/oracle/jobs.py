@@ -5,7 +5,7 @@ from copy import copy
 from typing import NamedTuple
 
 from formulas import MOST_BYTES, Refused, read_section
-from pack import OLD_STEP, PAIR, STEP, TASK, number
+from pack import NEW_STEP, OLD_STEP, PAIR, TASK, number
 from remainders import Rule
 from truth import meets
 
@@ -30,7 +30,7 @@ def read_pairs(data, steps, count):
         if at + PAIR > len(data):
             raise Refused(2, i)
         offset, length = number(data, at, 2), number(data, at + 2, 2)
-        right = length in (TASK + OLD_STEP * steps, TASK + STEP * steps) if i == 0 else 1 <= length <= MOST_BYTES
+        right = length in (TASK + OLD_STEP * steps, TASK + NEW_STEP * steps) if i == 0 else 1 <= length <= MOST_BYTES
         if offset != expected or not right or offset + length > len(data):
             raise Refused(2, i)
         sections.append((offset, offset + length))
@@ -56,11 +56,12 @@ class Job:
             return frozenset(i for i in range(facts) if value >> i & 1)
 
         task, end = sections[0]
-        size = STEP if end - task == TASK + STEP * steps else OLD_STEP
+        # the length alone tells the form
+        size = NEW_STEP if end - task == TASK + NEW_STEP * steps else OLD_STEP
 
         def step_at(offset):
             needed, added, deleted = facts_at(offset), facts_at(offset + 8), facts_at(offset + 16)
-            forbidden = facts_at(offset + 24) if size == STEP else frozenset()
+            forbidden = facts_at(offset + 24) if size == NEW_STEP else frozenset()
             return Step(needed, added, deleted, forbidden, number(data, offset + size - 2, 2))
 
         self.start, self.goal = facts_at(task), facts_at(task + 8)
@@ -76,6 +77,7 @@ class Job:
         return other
 
     def applicable(self, step, facts):
+        """All needed facts are true, and no forbidden one is."""
         return self.steps[step].needed <= facts and not self.steps[step].forbidden & facts
 
     def after(self, step, facts):

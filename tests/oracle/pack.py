@@ -2,11 +2,11 @@
 
 import struct
 
-PAIR, TASK = 4, 16          # bytes of a pair, and of start and goal
-OLD_STEP, STEP = 26, 34     # bytes of a step: in the old form, without a forbidden set, and in the new form of card 1
+PAIR, TASK = 4, 16              # bytes of a pair, and of start and goal
+OLD_STEP, NEW_STEP = 26, 34     # bytes of a step in the old form, and in the new form of card 1, which has a forbidden set
 
 # the longest job: 64 steps in the new form, 8 rules and 8 hints of 128 bytes
-MOST_JOB = 4 + 17 * PAIR + TASK + 64 * STEP + 16 * 128
+MOST_JOB = 4 + 17 * PAIR + TASK + 64 * NEW_STEP + 16 * 128
 
 
 # ---- put together
@@ -37,7 +37,7 @@ def with_formulas(counts, task, rules, hints):
     return counts + bytes([len(rules), len(hints)]) + pairs + b"".join(sections)
 
 
-# ---- taken apart; all of this is asked of whole jobs, whose pairs and sections fit
+# ---- taken apart: jobs whose pairs fit their sections
 
 
 def number(data, at, length):
@@ -61,7 +61,7 @@ def formula_bytes(data):
 
 
 def step_bytes(data):
-    """How many bytes a step has, or None in a job without steps, in which both forms are the same."""
+    """How many bytes a step has, or None in a job without steps, since both forms are then the same."""
     return (pairs_of(data)[0][1] - TASK) // data[1] if data[1] else None
 
 
