@@ -93,7 +93,7 @@ DOCUMENT_01 = [
     (read_through(p(), [0, 2]), "refused 7 1"),
 ]
 
-# steps that need facts absent: fact 0 is sanded (bit 1), fact 1 lamp (bit 2), fact 2 scanned (bit 4)
+# steps that need facts absent; in a set 1 stands for fact 0, sanded, 2 for fact 1, lamp, and 4 for fact 2, scanned
 CARD_1 = [
     (search(p(forbidden=(0, 0, 0))), "plan 3 16\n0\n1\n2"),
     # no sand once the lamp is on; no lamp once it is sanded; both
