@@ -13,7 +13,7 @@ use Rattle.model.specs.Verdict.{orElse}
 use Rattle.model.specs.job.Layout.{setBytes, plainSets, allSets, actionCount, pairOffset, pairLength, taskBytes, forbids, setCount}
 use Rattle.model.specs.job.Layout.{setOffset, actionAt, jobOf}
 use Rattle.model.specs.job.Decoding.{rightLength, setVerdict, actionVerdict, taskVerdict}
-use Rattle.model.specs.job.OldForm.{oldAction, oldVerdict, OldForm}
+use Rattle.model.specs.job.OldForm.{oldAction, oldVerdict, OldLength, OldForm}
 use Rattle.model.proofs.task.StateLaws.{nothing-forbidden}
 use Rattle.model.proofs.job.VerdictLaws.{inTurn-cong, listOf-cong}
 
@@ -58,7 +58,7 @@ module _ (bytes : List ℕ) where
       go false e = rw (sets-plain e) (eqb-true _ _ (or-first _ _ e h))
 
 -- ---- the old length
-module _ (bytes : List ℕ) (old : pairLength bytes 0 ≡ 16 + 26 * actionCount bytes) where
+module _ (bytes : List ℕ) (old : OldLength bytes) where
   -- The two lengths differ where there is an action.
   old-plain : 0 < actionCount bytes → forbids bytes ≡ false
   unfolding forbids taskBytes

@@ -33,7 +33,11 @@ module _ (bytes : List ℕ) where
   unfolding inTurn setVerdict oldOffset
   oldVerdict i = inTurn 3 (λ k. setVerdict bytes (oldOffset i + 8 * k))
 
-  -- A task of the old length means what it meant before.
+  -- the task has document 01's length
+  abbrev pub OldLength : Type 0
+  OldLength = pairLength bytes 0 ≡ 16 + 26 * actionCount bytes
+
+  -- What is claimed of a task of that length: it means what it meant before.
   pub record OldForm : Type 0 where
     -- its length is right
     pub right : rightLength bytes 0 (pairLength bytes 0) ≡ true
