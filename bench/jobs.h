@@ -10,7 +10,7 @@
 #include "dagzhimo.h"
 
 typedef struct {
-    uint64_t needed, added, deleted;
+    uint64_t needed, added, deleted, forbidden;
     unsigned cost;
 } step;
 
@@ -19,9 +19,9 @@ typedef struct {
     size_t length;
 } formula;
 
-/* The rules come first among the formulas, then the hints. */
+/* The rules come first among the formulas, then the hints. The forbidden facts are written only if `forbids` is set. */
 typedef struct {
-    unsigned facts, steps, rules, hints;
+    unsigned facts, steps, rules, hints, forbids;
     uint64_t start, goal;
     step step[64];
     formula formula[16];
@@ -39,15 +39,16 @@ static inline void put(uint8_t *at, uint64_t value, int bytes) {
 
 /* Writes the job's bytes, at most 8,192, and gives their number. */
 static inline size_t write_job(const task *t, uint8_t *job) {
-    size_t sections = 1u + t->rules + t->hints, at = 4 + 4 * sections, size = 16 + 26 * t->steps;
+    size_t sections = 1u + t->rules + t->hints, at = 4 + 4 * sections, stride = t->forbids ? 34 : 26, size = 16 + stride * t->steps;
     memset(job, 0, 8192);
     job[0] = (uint8_t)t->facts, job[1] = (uint8_t)t->steps, job[2] = (uint8_t)t->rules, job[3] = (uint8_t)t->hints;
     put(job + 4, at, 2), put(job + 6, size, 2);
     put(job + at, t->start, 8), put(job + at + 8, t->goal, 8);
     for (unsigned i = 0; i < t->steps; i++) {
-        uint8_t *step = job + at + 16 + 26 * i;
+        uint8_t *step = job + at + 16 + stride * i;
         put(step, t->step[i].needed, 8), put(step + 8, t->step[i].added, 8), put(step + 16, t->step[i].deleted, 8);
-        put(step + 24, t->step[i].cost, 2);
+        if (t->forbids) put(step + 24, t->step[i].forbidden, 8);
+        put(step + stride - 2, t->step[i].cost, 2);
     }
     at += size;
     for (unsigned i = 0; i + 1 < sections; i++) {

@@ -33,7 +33,7 @@ static void short_list(const char *what, const task *t, size_t count) {
 
 /* One fact, one step that adds it again; 8 rules and 8 hints, all the same. */
 static task repeated(formula f) {
-    task t = {.facts = 1, .steps = 1, .rules = 8, .hints = 8, .step = {{0, 1, 0, 1}}};
+    task t = {.facts = 1, .steps = 1, .rules = 8, .hints = 8, .step = {{0, 1, 0, 0, 1}}};
     for (int i = 0; i < 16; i++) t.formula[i] = f;
     return t;
 }
@@ -41,7 +41,7 @@ static task repeated(formula f) {
 /* 24 facts, each with a step that adds it and one that deletes it; 8 rules, each on one symbol and `named` facts. Every other one is on a step. */
 static task switches(unsigned named, size_t length) {
     task t = {.facts = 24, .steps = 48, .rules = 8};
-    for (unsigned i = 0; i < 24; i++) t.step[i] = (step){0, 1ull << i, 0, 1}, t.step[24 + i] = (step){0, 0, 1ull << i, 1};
+    for (unsigned i = 0; i < 24; i++) t.step[i] = (step){0, 1ull << i, 0, 0, 1}, t.step[24 + i] = (step){0, 0, 1ull << i, 0, 1};
     for (unsigned i = 0; i < 8; i++) {
         uint8_t facts[24];
         for (unsigned k = 0; k < named; k++) facts[k] = (uint8_t)((3 * i + 1 + k) % 24);
@@ -56,9 +56,10 @@ int main(void) {
     formula settled = {{0x21, 0x12, 0x23, 0x03, 0, 0x03, 0, 0x10, 0x22, 0x04, 0}, 11};
     formula settled_long = response(3, 0, fact, 1, 124);
     settled_long.bytes[0] = 0x21;
-    task none = {.facts = 1, .steps = 1, .step = {{0, 1, 0, 1}}}, t;
+    task none = {.facts = 1, .steps = 1, .step = {{0, 1, 0, 0, 1}}}, t;
 
     whole_list("no rule", &none);
+    t = none, t.facts = 2, t.forbids = 1, t.step[0].forbidden = 2, whole_list("no rule, a forbidden fact", &t);
     t = repeated(settled), whole_list("8 rules and 8 hints of 11 bytes, settled", &t);
     t = repeated(settled_long), whole_list("8 rules and 8 hints of 124 bytes, settled", &t);
     t = repeated(response(3, 0, fact, 1, 11)), whole_list("8 rules and 8 hints of 11 bytes, open", &t);

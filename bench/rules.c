@@ -12,8 +12,15 @@ static task cores(unsigned n) {
     task t = {.facts = 5 * n + 1, .steps = 5 * n, .goal = 1ull << 5 * n};
     for (unsigned i = 0; i < 5 * n; i++) {
         unsigned stage = i % 5;
-        t.step[i] = (step){stage == 0 || stage == 4 ? 0 : 1ull << (i - 1), 1ull << i, 0, 1 + (7 * stage + 3 * (i / 5)) % 5};
+        t.step[i] = (step){stage == 0 || stage == 4 ? 0 : 1ull << (i - 1), 1ull << i, 0, 0, 1 + (7 * stage + 3 * (i / 5)) % 5};
     }
+    return t;
+}
+
+/* The same, but a step is forbidden where its fact is true already, so that no step is repeated. */
+static task once(task t) {
+    t.forbids = 1;
+    for (unsigned i = 0; i < t.steps; i++) t.step[i].forbidden = t.step[i].added;
     return t;
 }
 
@@ -48,10 +55,11 @@ int main(void) {
     table = malloc(10000 * 160);
     size_t places = 1;
     for (unsigned n = 1; n <= 4; n++) {
-        task t = cores(n);
+        task t = cores(n), u = once(t);
         places = n == 1 ? 409 : n == 2 ? 100 : 10 * places;
         unsigned span = n < 2 ? n : 2;
         run("no rule", &t, places);
+        run("no rule, no step repeated", &u, places);
         add_formulas(&t, 8, 0, n, 1, 11), run("8 rules of 11 bytes", &t, places);
         add_formulas(&t, 4, 4, n, 1, 11), run("4 rules and 4 hints of 11 bytes", &t, places);
         add_formulas(&t, 8, 0, n, span, 124), run("8 rules of 124 bytes, answered at two cores", &t, places);

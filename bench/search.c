@@ -8,7 +8,7 @@
  * fact 0, or eventually (fact 1 or fact 0)). */
 static task subsets(unsigned n, unsigned rules) {
     task t = {.facts = n + 1, .steps = n, .rules = rules, .goal = 1ull << n};
-    for (unsigned i = 0; i < n; i++) t.step[i] = (step){0, 1ull << i, 0, 1 + i};
+    for (unsigned i = 0; i < n; i++) t.step[i] = (step){0, 1ull << i, 0, 0, 1 + i};
     t.formula[0] = (formula){{0x22, 0x12, 0x10, 0x03, 0x00, 0x21, 0x12, 0x03, 0x01, 0x03, 0x00}, 11};
     return t;
 }

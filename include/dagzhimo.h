@@ -2,6 +2,8 @@
  *
  *     cc control.c -Iinclude target/staticlib/libplanner.a
  *
+ * docs/JOB.md has the bytes of a job, in both forms of its task section: with forbidden facts, and without.
+ *
  * Every function takes bytes and answers a number: 0 for a result, otherwise the number of a refusal, whose place is then in out[0].
  *
  * Nothing is asked of the bytes: every job, rule and step list gets an answer, and what a table or a buffer holds before does not matter. Asked is
@@ -10,7 +12,7 @@
  * - that what is written (table, plan, buffer, out) overlaps nothing else that is lent.
  *
  * Nothing is static, and nothing is allocated: threads may call at once, each with a table, buffers and out of its own. A call needs up to
- * DAGZHIMO_STACK bytes of stack; a thread with less may crash. (94,100 were measured with 16 formulas of 128 bytes, nested as deep as can be.)
+ * DAGZHIMO_STACK bytes of stack; a thread with less may crash. (94,128 were measured with the longest job, whose formulas are nested as deep as can be.)
  */
 #ifndef DAGZHIMO_H
 #define DAGZHIMO_H
@@ -38,7 +40,7 @@ enum dagzhimo_answer {
     DAGZHIMO_BAD_FORMULA = 4,      /* unknown code, number too large, early end, bytes left      offset of the byte, or of the section's end */
     DAGZHIMO_MANY_PARTS = 5,       /* more than 6 carried parts                                  offset of the seventh */
     DAGZHIMO_BAD_STEP = 6,         /* over 65,535 steps, or a step number A or above             65,535, or the position in the list */
-    DAGZHIMO_NOT_APPLICABLE = 7,   /* a step that is not applicable                              position in the list */
+    DAGZHIMO_NOT_APPLICABLE = 7,   /* a step with a needed fact false or a forbidden one true    position in the list */
     DAGZHIMO_GOAL_MISSING = 8,     /* a goal fact is missing at the end                          0 */
     DAGZHIMO_RULE_NOT_MET = 9,     /* a rule is not met                                          the lowest such rule, from 0 */
     DAGZHIMO_TABLE_TOO_SMALL = 10, /* the nodes reached outnumber the table's slots              0 */

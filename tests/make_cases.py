@@ -1,10 +1,10 @@
-"""Writes what the programs `cases` and `dagzhimo` are run on and what they must print: the cases of document 01, each with what it says of it, and
-random rules with what they are to be written back as, by the document's words.
+"""Writes what the programs `cases` and `dagzhimo` are run on and what they must print: the cases of document 01 and of the cards, each with what these
+say of it, and random rules with what they are to be written back as, by the document's words.
 
     tests/make_cases.py [--check]
 
 With --check nothing is written: it fails if a stored file is not what would be written, and names the file. In both ways it fails if the oracle,
-which judges the random jobs, does not say of document 01's cases what the document says."""
+which judges the random jobs, does not say of these cases what document 01 and the cards say."""
 
 import pathlib
 import random
@@ -18,14 +18,24 @@ import expect  # noqa: E402
 from formulas import Refused  # noqa: E402
 from generate import formula  # noqa: E402
 from jobs import Job  # noqa: E402
-from pack import job, step  # noqa: E402
+from pack import job, sections_of, step, with_formulas  # noqa: E402
 from pairs import Answer  # noqa: E402
 from written import check_written, positive  # noqa: E402
 
 
-def p(goal=4, rules=(), hints=()):
-    """Job P: sand, lamp, pass."""
-    return job(3, 0, goal, [step(0, 1, 0, 5), step(0, 2, 0, 2), step(3, 4, 0, 9)], rules, hints)
+MOST_INPUT = 8192   # as much of its standard input as the program `cases` reads
+
+
+def p(goal=4, rules=(), hints=(), forbidden=(None, None, None)):
+    """Job P: sand, lamp, pass, in the old form, or in the new form where each step forbids these facts."""
+    sand, lamp, scan = forbidden
+    return job(3, 0, goal, [step(0, 1, 0, 5, sand), step(0, 2, 0, 2, lamp), step(3, 4, 0, 9, scan)], rules, hints)
+
+
+def p_in(length):
+    """Job P in the new form with nothing forbidden, its task cut off or made longer to this length."""
+    task = sections_of(p(forbidden=(0, 0, 0)))[0]
+    return with_formulas(bytes([3, 3]), task[:length].ljust(length, b"\0"), [], [])
 
 
 def search(data, room=64):
@@ -56,10 +66,11 @@ def random_rules(count):
 
 
 NEXTS = [0x20] * 6 + [0x03, 0x00]
+LAMP_FIRST = [0x23, 0x10, 0x04, 0x00, 0x04, 0x01]
 
-CASES = [
+DOCUMENT_01 = [
     (search(p()), "plan 3 16\n0\n1\n2"),
-    (search(p(rules=[[0x23, 0x10, 0x04, 0x00, 0x04, 0x01]])), "plan 3 16\n1\n0\n2"),
+    (search(p(rules=[LAMP_FIRST])), "plan 3 16\n1\n0\n2"),
     (search(p(rules=[[0x02]])), "refused 12 0"),
     (search(p(rules=[[0x21, 0x02]])), "plan 3 16\n0\n1\n2"),
     (search(p(rules=[[0x00]])), "refused 12 0"),
@@ -81,6 +92,39 @@ CASES = [
     (read_through(p(hints=[[0x21, 0x04, 0x00]]), [0, 1, 2]), "passed 16 1"),
     (read_through(p(), [0, 2]), "refused 7 1"),
 ]
+
+# steps that need facts absent; in a set 1 stands for fact 0, sanded, 2 for fact 1, lamp, and 4 for fact 2, scanned
+CARD_1 = [
+    (search(p(forbidden=(0, 0, 0))), "plan 3 16\n0\n1\n2"),
+    # no sand once the lamp is on; no lamp once it is sanded; both
+    (search(p(forbidden=(2, 0, 0))), "plan 3 16\n0\n1\n2"),
+    (search(p(forbidden=(0, 1, 0))), "plan 3 16\n1\n0\n2"),
+    (search(p(forbidden=(2, 1, 0))), "refused 12 0"),
+    (search(p(forbidden=(2, 0, 0), rules=[LAMP_FIRST])), "refused 12 0"),
+    (read_through(p(forbidden=(0, 1, 0)), [1, 0, 2]), "passed 16 0"),
+    (read_through(p(forbidden=(0, 1, 0)), [0, 1, 2]), "refused 7 1"),
+    # pass needs sanded and forbids it
+    (search(p(forbidden=(0, 0, 1))), "refused 12 0"),
+    (read_through(p(forbidden=(0, 0, 1)), [0, 1, 2]), "refused 7 2"),
+    # pass forbids what it adds
+    (read_through(p(forbidden=(0, 0, 4)), [0, 1, 2, 2]), "refused 7 3"),
+    # lens (fact 0) is lowered, lens and clamp (fact 1) are wanted; swing forbids lens; lower adds it; raise deletes it
+    (search(job(2, 1, 3, [step(0, 2, 0, 3, 1), step(0, 1, 0, 2, 0), step(1, 0, 1, 1, 0)])), "plan 3 6\n2\n0\n1"),
+    # fact 3 of 3: the first step begins at 8 + 16, its forbidden set 24 later, and each next step 34 later; the goal stands before, at 16
+    (search(p(forbidden=(8, 0, 0))), "refused 3 48"),
+    (search(p(forbidden=(0, 8, 8))), "refused 3 82"),
+    (read_through(p(forbidden=(0, 0, 8)), [0, 1, 2]), "refused 3 116"),
+    (search(p(goal=12, forbidden=(8, 8, 8))), "refused 3 16"),
+    # three steps take 16 + 78 bytes or 16 + 102
+    (search(p_in(95)), "refused 2 0"),
+    (search(p_in(106)), "refused 2 0"),
+    (read_through(p_in(117), [0, 1, 2]), "refused 2 0"),
+    # without steps both forms are the same
+    (search(job(3, 0, 4, [])), "refused 12 0"),
+    (search(job(3, 4, 4, [])), "plan 0 0"),
+]
+
+CASES = DOCUMENT_01 + CARD_1
 
 
 def printed(case):
@@ -122,7 +166,9 @@ def main():
         sys.exit(__doc__)
     for case, line in CASES:
         if printed(case) != line:
-            sys.exit(f"the oracle says {printed(case)!r} and document 01 {line!r} of the case {case.hex()}")
+            sys.exit(f"the oracle says {printed(case)!r} and document 01 or a card {line!r} of the case {case.hex()}")
+    if len(files()["crates/cases/stdin"]) > MOST_INPUT:
+        sys.exit(f"the program `cases` reads {MOST_INPUT} bytes, and the cases have more")
     for name, wanted in files().items():
         path = ROOT / name
         if not check:

@@ -1,5 +1,5 @@
-/* What the tests in C share: job P of document 01, the planner's calls with their numbers together, and expectations that print what was got and what
- * was expected. */
+/* What the tests in C share: job P of document 01 in both forms of its steps, the planner's calls with their numbers together, and expectations that
+ * print what was got and what was expected. */
 #ifndef EXPECT_H
 #define EXPECT_H
 
@@ -74,26 +74,59 @@ static inline int finish(const char *name) {
     return failures ? 1 : 0;
 }
 
+/* ---- bytes of a job */
+
+/* Bytes of start and goal, of a step in the old form and in the new form, which has a forbidden set too, and of the longest job. */
+enum { TASK = 16, OLD_STEP = 26, NEW_STEP = 34, MOST_JOB = 4 + 17 * 4 + TASK + 64 * NEW_STEP + 16 * 128 };
+
+static inline void put(uint8_t *at, uint64_t value, int bytes) {
+    for (int i = 0; i < bytes; i++, value >>= 8) at[i] = (uint8_t)value;
+}
+
+/* Writes a job without formulas and with a task of so many bytes, all 0: empty sets and steps that cost nothing. Gives its length. */
+static inline size_t empty_job(uint8_t *job, uint8_t facts, uint8_t steps, size_t task) {
+    memset(job, 0, 8 + task);
+    job[0] = facts, job[1] = steps;
+    put(job + 4, 8, 2), put(job + 6, task, 2);
+    return 8 + task;
+}
+
 /* ---- job P: sand adds fact 0 (cost 5), lamp adds fact 1 (cost 2), pass needs both and adds fact 2 (cost 9) */
 
-enum { GOAL_NONE = 0, GOAL_SCANNED = 4, P_ROOM = 106 + 128 };
+enum { GOAL_NONE = 0, GOAL_SCANNED = 4, P_ROOM = 12 + TASK + 3 * NEW_STEP + 128 };
 
 enum as { PLAIN, AS_RULE, AS_HINT };
 
-/* Writes P with this goal and with one formula, or with none if it is PLAIN, and gives its length. */
-static inline size_t job_p(uint8_t *job, uint8_t goal, enum as as, const uint8_t *formula, size_t length) {
-    const uint8_t plain[8] = {3, 3, 0, 0, 8, 0, 94, 0};
-    const uint8_t more[12] = {3, 3, as == AS_RULE, as == AS_HINT, 12, 0, 94, 0, 106, 0, (uint8_t)length, 0};
-    uint8_t *task = job + (as == PLAIN ? sizeof plain : sizeof more);
-    memcpy(job, as == PLAIN ? plain : more, (size_t)(task - job));
-    memset(task, 0, 94);
+/* The facts that each step of P forbids. */
+struct forbidden {
+    uint8_t sand, lamp, pass;
+};
+
+/* Writes P with steps of so many bytes, with this goal and with one formula, or with none if it is PLAIN, and gives its length. */
+static inline size_t write_p(uint8_t *job, uint8_t step, struct forbidden forbidden, uint8_t goal, enum as as, const uint8_t *formula, size_t length) {
+    const uint8_t at = as == PLAIN ? 8 : 12, size = (uint8_t)(TASK + 3 * step);
+    const uint8_t head[12] = {3, 3, as == AS_RULE, as == AS_HINT, at, 0, size, 0, (uint8_t)(at + size), 0, (uint8_t)length, 0};
+    uint8_t *task = job + at, *sand = task + TASK, *lamp = sand + step, *pass = lamp + step;
+    memcpy(job, head, at);
+    memset(task, 0, size);
     task[8] = goal;
-    task[16 + 8] = 1, task[16 + 24] = 5;
-    task[42 + 8] = 2, task[42 + 24] = 2;
-    task[68] = 3, task[68 + 8] = 4, task[68 + 24] = 9;
-    if (as == PLAIN) return 102;
-    memcpy(job + 106, formula, length);
-    return 106 + length;
+    if (step == NEW_STEP) sand[24] = forbidden.sand, lamp[24] = forbidden.lamp, pass[24] = forbidden.pass;
+    sand[8] = 1, sand[step - 2] = 5;
+    lamp[8] = 2, lamp[step - 2] = 2;
+    pass[0] = 3, pass[8] = 4, pass[step - 2] = 9;
+    if (as == PLAIN) return at + size;
+    memcpy(task + size, formula, length);
+    return at + size + length;
+}
+
+/* P in the old form. */
+static inline size_t job_p(uint8_t *job, uint8_t goal, enum as as, const uint8_t *formula, size_t length) {
+    return write_p(job, OLD_STEP, (struct forbidden){0}, goal, as, formula, length);
+}
+
+/* P in the new form, with nothing forbidden. */
+static inline size_t job_p_new(uint8_t *job, uint8_t goal, enum as as, const uint8_t *formula, size_t length) {
+    return write_p(job, NEW_STEP, (struct forbidden){0}, goal, as, formula, length);
 }
 
 #endif

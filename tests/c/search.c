@@ -1,4 +1,4 @@
-/* Calls the search from C on document 01's cases, and looks at numbers, plan buffer and table. */
+/* Calls the search from C on document 01's cases, in both forms of a step, and looks at numbers, plan buffer and table. */
 #include "expect.h"
 
 enum { SLOT = DAGZHIMO_SLOT };
@@ -30,22 +30,25 @@ static void expect_10_or_plan(const char *what, size_t length, uint8_t *lent, si
     }
 }
 
-static void cases(void) {
-    expect_plan("P", job_p(job, GOAL_SCANNED, PLAIN, NULL, 0), 0, 16, BYTES(0, 1, 2));
-    expect_plan("lamp before sand", job_p(job, GOAL_SCANNED, AS_RULE, BYTES(0x23, 0x10, 0x04, 0x00, 0x04, 0x01)), 0, 16, BYTES(1, 0, 2));
-    expect_refused("rule last", job_p(job, GOAL_SCANNED, AS_RULE, BYTES(0x02)), 12);
-    expect_plan("rule eventually last", job_p(job, GOAL_SCANNED, AS_RULE, BYTES(0x21, 0x02)), 0, 16, BYTES(0, 1, 2));
-    expect_refused("rule false", job_p(job, GOAL_SCANNED, AS_RULE, BYTES(0x00)), 12);
-    expect_plan("no goal", job_p(job, GOAL_NONE, PLAIN, NULL, 0), 0, 0, NULL, 0);
-    expect_plan("no goal, next last", job_p(job, GOAL_NONE, AS_RULE, BYTES(0x20, 0x02)), 0, 0, NULL, 0);
-    expect_plan("no goal, next next true", job_p(job, GOAL_NONE, AS_RULE, BYTES(0x20, 0x20, 0x01)), 0, 2, BYTES(1));
-    expect_refused("hint never lamp", job_p(job, GOAL_SCANNED, AS_HINT, BYTES(0x22, 0x10, 0x04, 0x01)), 11);
-    expect_plan("hint eventually sand", job_p(job, GOAL_SCANNED, AS_HINT, BYTES(0x21, 0x04, 0x00)), 0, 16, BYTES(0, 1, 2));
+/* Cases of P, which is written in the old form or in the new one. */
+static void cases(size_t (*p)(uint8_t *job, uint8_t goal, enum as as, const uint8_t *formula, size_t length)) {
+    expect_plan("P", p(job, GOAL_SCANNED, PLAIN, NULL, 0), 0, 16, BYTES(0, 1, 2));
+    expect_plan("lamp before sand", p(job, GOAL_SCANNED, AS_RULE, BYTES(0x23, 0x10, 0x04, 0x00, 0x04, 0x01)), 0, 16, BYTES(1, 0, 2));
+    expect_refused("rule last", p(job, GOAL_SCANNED, AS_RULE, BYTES(0x02)), 12);
+    expect_plan("rule eventually last", p(job, GOAL_SCANNED, AS_RULE, BYTES(0x21, 0x02)), 0, 16, BYTES(0, 1, 2));
+    expect_refused("rule false", p(job, GOAL_SCANNED, AS_RULE, BYTES(0x00)), 12);
+    expect_plan("no goal", p(job, GOAL_NONE, PLAIN, NULL, 0), 0, 0, NULL, 0);
+    expect_plan("no goal, next last", p(job, GOAL_NONE, AS_RULE, BYTES(0x20, 0x02)), 0, 0, NULL, 0);
+    expect_plan("no goal, next next true", p(job, GOAL_NONE, AS_RULE, BYTES(0x20, 0x20, 0x01)), 0, 2, BYTES(1));
+    expect_refused("hint never lamp", p(job, GOAL_SCANNED, AS_HINT, BYTES(0x22, 0x10, 0x04, 0x01)), 11);
+    expect_plan("hint eventually sand", p(job, GOAL_SCANNED, AS_HINT, BYTES(0x21, 0x04, 0x00)), 0, 16, BYTES(0, 1, 2));
     /* six moments after the first must come, so there are five steps, and the cheapest more ones are lamps */
-    expect_plan("six times next", job_p(job, GOAL_SCANNED, AS_RULE, BYTES(0x20, 0x20, 0x20, 0x20, 0x20, 0x20, 0x03, 0x00)), 0, 20,
+    expect_plan("six times next", p(job, GOAL_SCANNED, AS_RULE, BYTES(0x20, 0x20, 0x20, 0x20, 0x20, 0x20, 0x03, 0x00)), 0, 20,
                 BYTES(0, 1, 1, 1, 2));
+}
 
-    /* two facts, two steps of cost 0 that add and delete fact 0, goal fact 1 */
+/* Two facts, two steps of cost 0 that add and delete fact 0, goal fact 1. */
+static void undone(void) {
     memset(job, 0, sizeof job);
     memcpy(job, BYTES(2, 2, 0, 0, 8, 0, 68, 0));
     job[8 + 8] = 2;
@@ -114,7 +117,11 @@ static void refusals(void) {
 }
 
 int main(void) {
-    cases();
+    cases(job_p);
+    int before = failures;
+    cases(job_p_new);
+    if (failures > before) printf("the last %d of these in the new form\n", failures - before);
+    undone();
     buffers();
     tables();
     refusals();

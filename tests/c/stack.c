@@ -1,32 +1,31 @@
 /* How much stack a call needs, measured: the calls run on a stack of their own, painted before, and the bytes that they overwrite are counted.
- * The job has 16 formulas of 128 bytes that are nested as deep as can be, 127 operators and a constant in each other, since the reader and the
- * evaluator call themselves at each operand; the rule to write back has 127 nots. */
+ * The job has the most bytes that a job can have. Its 16 formulas of 128 bytes are nested as deep as can be, 127 operators and a constant in each
+ * other, since the reader and the evaluator call themselves at each operand; the rule to write back has 127 nots. */
 #include <ucontext.h>
 
 #include "expect.h"
 
 enum { ROOM = 1 << 20, PAINT = 0xa5 };
 
-static uint8_t stack[ROOM] __attribute__((aligned(16))), job[8192], table[409 * DAGZHIMO_SLOT], plan[1024], steps[4096], rule[128], buffer[128];
-static size_t job_len;
+static uint8_t stack[ROOM] __attribute__((aligned(16))), job[MOST_JOB], table[409 * DAGZHIMO_SLOT], plan[1024], steps[4096], rule[128], buffer[128];
 static struct numbers answer;
 static ucontext_t caller, callee;
 
-static void put(uint8_t *at, uint64_t value, int bytes) {
-    for (int i = 0; i < bytes; i++, value >>= 8) at[i] = (uint8_t)value;
-}
-
-/* 9 facts, each with a step that adds it and one that deletes it; fact 8 is the goal; 8 rules and 8 hints: always not not .. true, which stay open. */
+/* The first 9 facts each have a step that adds it and one that deletes it; both forbid fact 9, which is never true. The other steps need and forbid
+ * fact 0. Fact 8 is the goal. 8 rules and 8 hints: always not not .. true, which stay open. */
 static void make_job(void) {
-    size_t sections = 17, at = 4 + 4 * sections, size = 16 + 26 * 18;
+    size_t sections = 17, at = 4 + 4 * sections, size = TASK + 64 * NEW_STEP;
     memset(job, 0, sizeof job);
-    job[0] = 9, job[1] = 18, job[2] = job[3] = 8;
+    job[0] = job[1] = 64, job[2] = job[3] = 8;
     put(job + 4, at, 2), put(job + 6, size, 2);
     put(job + at + 8, 1ull << 8, 8);
-    for (unsigned i = 0; i < 18; i++) {
-        uint8_t *step = job + at + 16 + 26 * i;
-        put(step + (i < 9 ? 8 : 16), 1ull << i % 9, 8);
-        put(step + 24, i, 2);
+    for (unsigned i = 0; i < 64; i++) {
+        uint8_t *step = job + at + TASK + NEW_STEP * i;
+        if (i < 18)
+            put(step + (i < 9 ? 8 : 16), 1ull << i % 9, 8), put(step + 24, 1ull << 9, 8);
+        else
+            put(step, 1, 8), put(step + 24, 1, 8);
+        put(step + 32, i, 2);
     }
     at += size;
     for (unsigned i = 0; i < 16; i++) {
@@ -35,12 +34,11 @@ static void make_job(void) {
         job[at] = 0x22, job[at + 127] = 0x01;
         at += 128;
     }
-    job_len = at;
 }
 
-static void call_search(void) { answer = search(job, job_len, table, sizeof table, plan, sizeof plan); }
+static void call_search(void) { answer = search(job, sizeof job, table, sizeof table, plan, sizeof plan); }
 
-static void call_read_through(void) { answer = read_through(job, job_len, steps, sizeof steps); }
+static void call_read_through(void) { answer = read_through(job, sizeof job, steps, sizeof steps); }
 
 static void call_write_back(void) { answer = write_back(3, 3, rule, sizeof rule, buffer, sizeof buffer); }
 

@@ -1,4 +1,4 @@
-"""Compares the planner's static library with document 01 on random jobs: numbers, places, and every byte of the lent slices.
+"""Compares the planner's static library with document 01 and the cards on random jobs: numbers, places, and every byte of the lent slices.
 
     compare.py DRIVER [SEED [JOBS]]
 
@@ -8,14 +8,15 @@ fails if something that the jobs are to try happened too seldom."""
 import random
 import sys
 
+import events
 import expect
 import generate
 import richer
 from driver import BadCall, Driver
 from enumeration import Enumeration
-from formulas import MOST_BYTES, MOST_PARTS, Refused, within
+from formulas import MOST_BYTES, Refused, within
 from jobs import Job
-from pack import MOST_JOB, formula_bytes
+from pack import formula_bytes
 from pairs import SLOT, Answer, TooMany, slots
 from tally import Tally
 from written import check_written
@@ -24,6 +25,14 @@ MOST_PAIRS = 500    # jobs that reach more are left out, since the oracle is slo
 
 # the planner uses its memo where the formulas' bytes, times the table's places or the list's steps, come to this number (docs/DECISIONS.md)
 MEMO = 4096
+
+# how often each kind of job is made, and by which change a job is made wrong
+KINDS = {generate.small_job: 25, richer.richer_job: 65, richer.wide_job: 3, richer.large_job: 5, richer.either_form_job: 2}
+WRONG = {generate.damaged: 15, generate.other_length: 4, generate.high_bits: 6}
+
+
+def pick(rng, weights):
+    return rng.choices(list(weights), weights.values())[0]
 
 
 class Comparison:
@@ -45,12 +54,11 @@ class Comparison:
         """The bytes of a job, and if it is accepted the job and its answer, else its refusal."""
         rng = self.rng
         while True:
-            make, = rng.choices([generate.small_job, richer.richer_job, richer.wide_job, richer.large_job], [30, 62, 3, 5])
-            data = make(rng)
-            if rng.random() < 0.04:
+            data = pick(rng, KINDS)(rng)
+            if rng.random() < 0.05:
                 data = generate.many_parts(rng, data)
-            if rng.random() < 0.2:
-                data = generate.damaged(rng, data)
+            if rng.random() < 0.25:
+                data = pick(rng, WRONG)(rng, data)
             try:
                 job = Job(data)
                 return data, None, job, Answer(job, MOST_PAIRS)
@@ -62,34 +70,18 @@ class Comparison:
     def one_job(self):
         data, refused, job, answer = self.next_job()
         if refused:
-            self.tally.count_true("jobs with", {"place over 255": refused.place > 255})
+            self.tally.count_true("jobs refused with", events.of_refused(data, refused))
         else:
-            self.count_job(data, job, answer)
+            self.tally.count("jobs with the operator", *{f[0] for r in job.rules + job.hints for f in within(r.formula)})
+            self.tally.count("jobs with", *answer.events)
+            self.tally.count_true("jobs with", events.of_accepted(data, job, answer))
+            self.tally.count_true("jobs with", events.of_forbidden(job, answer, MOST_PAIRS))
         lists = self.enumeration(data, job) if job else None
         for room in self.rooms(answer):
             self.search(data, refused, answer, lists, room)
         for steps in self.step_lists(data, job, answer):
             self.read_through(data, refused, job, steps)
         self.write_back()
-
-    def count_job(self, data, job, answer):
-        formulas = job.rules + job.hints
-        lengths = [e - a for a, e in zip(job.offsets[1:], job.offsets[2:] + [len(data)])]
-        self.tally.count("jobs with the operator", *{f[0] for r in formulas for f in within(r.formula)})
-        self.tally.count("jobs with", *answer.events)
-        self.tally.count_true("jobs with", {
-            "over 2 pairs": answer.reached > 2,
-            "plan through a merge": answer.merged,
-            "plan of 4 steps or more": len(answer.path) >= 4,
-            "64 facts": data[0] == 64,
-            "64 steps": data[1] == 64,
-            "8 rules and 8 hints": data[2] == data[3] == 8,
-            "rule of 128 bytes": MOST_BYTES in lengths,
-            "the most bytes": len(data) == MOST_JOB,
-            "offset over 255": job.offsets[-1] > 255,
-            "rule of 5 parts": any(len(r.parts) == MOST_PARTS - 1 for r in formulas),
-            "rule of 6 parts": any(len(r.parts) == MOST_PARTS for r in formulas),
-        })
 
     # ---- search
 
@@ -128,7 +120,7 @@ class Comparison:
 
     def enumeration(self, data, job):
         """All short lists of the job, if they decide what a search must give."""
-        if job.hints and not all(s[3] for s in job.steps):
+        if job.hints and not all(s.cost for s in job.steps):
             return None
         lists = Enumeration(job, formula_bytes(data))
         return lists if lists.decides() else None
@@ -148,14 +140,15 @@ class Comparison:
     # ---- read-through
 
     def step_lists(self, data, job, answer):
-        """Step lists for a job: any numbers, the plan, applicable steps, and a list so long that the memo is used."""
+        """Step lists for a job: any numbers, the plan, applicable steps, steps that are applicable where forbidden facts are overlooked, and a list so
+        long that the memo is used."""
         rng = self.rng
         numbers = data[1] + 2 if job else 5
         yield bytes(rng.randrange(numbers) for _ in range(rng.randint(0, 4)))
         if job:
             yield bytes(answer.path)
-            for _ in range(2):
-                yield generate.walk_to_goal(rng, job, rng.randint(0, 12), 0)
+            yield generate.walk_to_goal(rng, job, rng.randint(0, 12), 0)
+            yield generate.walk_to_goal(rng, job.forbidding_nothing(), rng.randint(0, 12), 0)
             size = formula_bytes(data)
             if size >= 20:
                 yield generate.walk_to_goal(rng, job, MEMO // size + rng.randint(1, 60), MEMO // size + 1)
@@ -168,7 +161,10 @@ class Comparison:
             self.fail(f"{called}: got {numbers}, wanted {wanted}")
         self.tally.count("read-through", numbers[0])
         if job:
-            self.tally.count_true("calls with", {"read-through with a memo": formula_bytes(data) * len(steps) >= MEMO})
+            self.tally.count_true("calls with", {
+                "read-through with a memo": formula_bytes(data) * len(steps) >= MEMO,
+                "7 for a forbidden fact alone": events.refused_by_forbidden(job, numbers, steps),
+            })
 
     # ---- writing back
 
@@ -199,7 +195,7 @@ def main():
     seldom = comparison.tally.seldom(jobs)
     if seldom:
         sys.exit(f"seed {seed}: too seldom: " + "; ".join(seldom))
-    print(f"{jobs} random jobs, seed {seed}: all as document 01 says; {comparison.tally}")
+    print(f"{jobs} random jobs, seed {seed}: all as document 01 and the cards say; {comparison.tally}")
 
 
 if __name__ == "__main__":

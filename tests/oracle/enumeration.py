@@ -1,6 +1,8 @@
 """A second opinion on the search, which shares nothing with the first but the reading of a job and the truth of formulas: step lists are
 enumerated, and judged one by one."""
 
+from itertools import islice
+
 MOST_STEPS = 6
 MOST_WORK = 20000
 
@@ -14,15 +16,17 @@ class Enumeration:
 
     def __init__(self, job, formula_bytes):
         self.job, self.best, self.cheapest, self.length = job, None, [], -1
-        lists, enumerated = [(0, (), job.start)], 0
-        while lists and self.length < MOST_STEPS and (enumerated + len(lists)) * (1 + formula_bytes) <= MOST_WORK:
+        lists, enumerated, most = [(0, (), job.start)], 0, MOST_WORK // (1 + formula_bytes)
+        while lists and self.length < MOST_STEPS and enumerated + len(lists) <= most:
             for cost, plan, facts in lists:
                 if job.goal <= facts and not (self.best and cost > self.best[0]) and job.allowed(plan):
                     self.found(cost, plan)
             enumerated += len(lists)
             self.length += 1
-            lists = [(cost + job.steps[s][3], plan + (s,), job.after(s, facts)) for cost, plan, facts in lists for s in range(len(job.steps))
-                     if job.applicable(s, facts)]
+            longer = ((cost + job.steps[s].cost, plan + (s,), job.after(s, facts)) for cost, plan, facts in lists for s in range(len(job.steps))
+                      if job.applicable(s, facts))
+            # one list too many tells as much as all of them
+            lists = list(islice(longer, most - enumerated + 1))
         if not lists:
             self.length = float("inf")
 
@@ -38,7 +42,7 @@ class Enumeration:
         each step costs 1 or more, lists that are longer than the least cost cost more."""
         if not self.job.hints:
             return True
-        seen = self.best is not None and all(s[3] for s in self.job.steps) and self.best[0] <= self.length
+        seen = self.best is not None and all(s.cost for s in self.job.steps) and self.best[0] <= self.length
         every = (1 << len(self.job.hints)) - 1
         return seen and all(self.job.read_through(plan)[1] == every for plan in self.cheapest)
 

@@ -1,4 +1,4 @@
-"""What document 01 wants of a call: the numbers it answers, and every lent byte afterwards."""
+"""What document 01 and the cards want of a call: the numbers it answers, and every lent byte afterwards."""
 
 from formulas import MOST_BYTES, Refused, read_section
 from pairs import slots

@@ -50,16 +50,21 @@ def sized(rng, atom, length, parts):
 
 
 def small_job(rng):
-    """At most 3 facts and 4 steps, and formulas of any shape, most of which settle at once."""
+    """At most 3 facts and 4 steps of either form, and formulas of any shape, most of which settle at once."""
     facts, steps = rng.randint(1, 3), rng.choice([0, 1, 2, 2, 3, 3, 4])
     long = rng.random() < 0.1
     few = lambda: rng.choice([0, 0, 0, 1, 1, 2])
     subset = lambda p: sum(1 << i for i in range(facts) if rng.random() < p)
     atom = atoms(rng, range(facts), range(steps))
     any_formula = lambda: sized(rng, atom, rng.randint(16, 128), 4) if long else formula(rng, facts, steps, rng.randint(0, 3))
-    return pack.job(facts, subset(0.3), subset(0.4),
-                    [pack.step(subset(0.3), subset(0.4), subset(0.3), rng.choice([0, 0, 1, 1, 2, 3, 65535])) for _ in range(steps)],
+    new_form = rng.random() < 0.5
+    forbidden = lambda: subset(0.2) if new_form else None
+    step = lambda: pack.step(subset(0.3), subset(0.4), subset(0.3), rng.choice([0, 0, 1, 1, 2, 3, 65535]), forbidden())
+    return pack.job(facts, subset(0.3), subset(0.4), [step() for _ in range(steps)],
                     [any_formula() for _ in range(few())], [any_formula() for _ in range(few())])
+
+
+# ---- jobs changed, most often so that they are refused
 
 
 def many_parts(rng, data):
@@ -86,9 +91,41 @@ def damaged(rng, data):
             data += rng.randbytes(rng.randint(1, 3))
         elif data:
             # most often in the head and the pairs, or in the formulas at the end
-            at = rng.choice([rng.randrange(len(data)), rng.randrange(min(24, len(data))), len(data) - 1 - rng.randrange(min(12, len(data)))])
+            front, back = min(rng.choice([4, 24, 24]), len(data)), min(12, len(data))
+            at = rng.choice([rng.randrange(len(data)), rng.randrange(front), len(data) - 1 - rng.randrange(back)])
             data[at] = rng.choice([0, 1, 2, 3, 4, 0x10, 0x11, 0x20, 0x21, 0x23, 65, 255, rng.randrange(256)])
     return bytes(data)
+
+
+def other_length(rng, data):
+    """A whole job whose task does not have the length of either form, though all pairs fit: it is cut off or made longer, to a length near those of the
+    two forms or between them, or it stays as it is and the number of steps changes. (Seldom the other number of steps fits the other form.)"""
+    task, rules, hints = pack.sections_of(data)
+    steps = data[1]
+    old, new = pack.TASK + pack.OLD_STEP * steps, pack.TASK + pack.NEW_STEP * steps
+    if rng.random() < 0.3:
+        steps = rng.choice([n for n in range(65) if n != steps])
+    else:
+        near = [old - 1, old + 1, old + 8, old + pack.OLD_STEP, (old + new) // 2, new - 8, new - 1, new + 1, new + pack.NEW_STEP]
+        length = rng.choice([n for n in near if n not in (old, new)])
+        task = task[:length].ljust(length, b"\0")
+    return pack.with_formulas(bytes([data[0], steps]), task, rules, hints)
+
+
+def high_bits(rng, data):
+    """A whole job with a bit V or above in one of its sets of facts, and often in the next one, too, or in any other; with 64 facts there is none. Each
+    kind of set is as likely, but a forbidden set, which half of the jobs do not have, three times as likely."""
+    found, count, sets = bytearray(data), data[0], pack.sets_of(data)
+    if count == 64:
+        return data
+    kinds = sorted({name for name, _ in sets})
+    kind = rng.choice(kinds + ["forbidden"] * 2 if "forbidden" in kinds else kinds)
+    one = rng.choice([i for i, (name, _) in enumerate(sets) if name == kind])
+    other = rng.choice([one, one, (one + 1) % len(sets), rng.randrange(len(sets))])
+    for i in {one, other}:
+        offset, bit = sets[i][1], rng.choice([count, count, rng.randrange(count, 64), 63])
+        found[offset + bit // 8] |= 1 << bit % 8
+    return bytes(found)
 
 
 # ---- step lists

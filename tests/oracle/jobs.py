@@ -1,16 +1,25 @@
-"""A job read from its bytes, or its refusal, and the read-through of a step list: written from document 01 alone, slowly, by its own words, with
-nothing shared with the planner."""
+"""A job read from its bytes, or its refusal, and the read-through of a step list: written from document 01 and the cards alone, slowly, by their own
+words, with nothing shared with the planner."""
+
+from copy import copy
+from typing import NamedTuple
 
 from formulas import MOST_BYTES, Refused, read_section
-from pack import PAIR, STEP, TASK
+from pack import NEW_STEP, OLD_STEP, PAIR, TASK, number
 from remainders import Rule
 from truth import meets
 
 MOST_STEPS = 65535
 
 
-def number(data, at, length):
-    return int.from_bytes(data[at:at + length], "little")
+class Step(NamedTuple):
+    """Four sets of facts, and the cost."""
+
+    needed: frozenset
+    added: frozenset
+    deleted: frozenset
+    forbidden: frozenset
+    cost: int
 
 
 def read_pairs(data, steps, count):
@@ -21,7 +30,7 @@ def read_pairs(data, steps, count):
         if at + PAIR > len(data):
             raise Refused(2, i)
         offset, length = number(data, at, 2), number(data, at + 2, 2)
-        right = length == TASK + STEP * steps if i == 0 else 1 <= length <= MOST_BYTES
+        right = length in (TASK + OLD_STEP * steps, TASK + NEW_STEP * steps) if i == 0 else 1 <= length <= MOST_BYTES
         if offset != expected or not right or offset + length > len(data):
             raise Refused(2, i)
         sections.append((offset, offset + length))
@@ -46,21 +55,33 @@ class Job:
                 raise Refused(3, offset)
             return frozenset(i for i in range(facts) if value >> i & 1)
 
-        task = sections[0][0]
+        task, end = sections[0]
+        # the length alone tells the form
+        size = NEW_STEP if end - task == TASK + NEW_STEP * steps else OLD_STEP
+
+        def step_at(offset):
+            needed, added, deleted = facts_at(offset), facts_at(offset + 8), facts_at(offset + 16)
+            forbidden = facts_at(offset + 24) if size == NEW_STEP else frozenset()
+            return Step(needed, added, deleted, forbidden, number(data, offset + size - 2, 2))
+
         self.start, self.goal = facts_at(task), facts_at(task + 8)
-        self.steps = []
-        for i in range(steps):
-            o = task + TASK + STEP * i
-            self.steps.append((facts_at(o), facts_at(o + 8), facts_at(o + 16), number(data, o + 24, 2)))
+        self.steps = [step_at(task + TASK + size * i) for i in range(steps)]
         formulas = [Rule(read_section(data, a, e, facts, steps)) for a, e in sections[1:]]
         self.rules, self.hints = formulas[:rules], formulas[rules:]
         self.offsets = [a for a, _ in sections]
 
+    def forbidding_nothing(self):
+        """The same job, but with every forbidden set empty."""
+        other = copy(self)
+        other.steps = [step._replace(forbidden=frozenset()) for step in self.steps]
+        return other
+
     def applicable(self, step, facts):
-        return self.steps[step][0] <= facts
+        """All needed facts are true, and no forbidden one is."""
+        return self.steps[step].needed <= facts and not self.steps[step].forbidden & facts
 
     def after(self, step, facts):
-        return (facts - self.steps[step][2]) | self.steps[step][1]
+        return (facts - self.steps[step].deleted) | self.steps[step].added
 
     def worlds(self, plan):
         """The worlds of a step list: the start facts, the facts after each step with that step, and the closing world."""
@@ -71,7 +92,7 @@ class Job:
         return worlds + [(facts, None)]
 
     def cost(self, plan):
-        return sum(self.steps[s][3] for s in plan)
+        return sum(self.steps[s].cost for s in plan)
 
     def read_through(self, plan):
         """Cost and hint bits of an allowed plan."""

@@ -60,7 +60,7 @@ class Exploration:
             to = (facts, tuple(r.later(x, world) for r, x in zip(job.rules, pair[1])))
             if not all(to[1]) or to in self.reached:
                 continue
-            key = (here.key[0] + job.steps[step][3], here.key[1] + 1)
+            key = (here.key[0] + job.steps[step].cost, here.key[1] + 1)
             hints = tuple(h.later(x, world) for h, x in zip(job.hints, here.hints))
             self.arrive(to, Arrival(key, hints, here.path + (step,), here.merged))
 

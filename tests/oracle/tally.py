@@ -4,24 +4,34 @@ from collections import Counter
 
 from pairs import CUT, HINTS, LONGER, MERGED, PATH, REPLACED, SHORTER
 
-# how often each must happen at least, in a thousand jobs: about half of what was counted with several seeds
+# how often each must happen at least, in a thousand jobs: about half of what was counted with several seeds, or what a comment asks
 FLOORS = {
     # how often each number was answered; 0 is a result
-    "search": {0: 300, 1: 3, 2: 90, 3: 40, 4: 20, 5: 12, 10: 200, 11: 60, 12: 120, 13: 80},
-    "read-through": {0: 700, 1: 1, 2: 45, 3: 20, 4: 10, 5: 6, 6: 140, 7: 85, 8: 500, 9: 220},
+    "search": {0: 260, 1: 11, 2: 110, 3: 88, 4: 22, 5: 14, 10: 210, 11: 55, 12: 120, 13: 66},
+    "read-through": {0: 640, 1: 5, 2: 55, 3: 44, 4: 11, 5: 7, 6: 130, 7: 165, 8: 500, 9: 180},
     "write-back": {0: 200, 1: 50, 2: 20, 4: 45, 5: 25, 13: 110},
     # the first seven are events of a job's exploration up to its answer
     "jobs with": {
-        MERGED: 150, PATH: 90, HINTS: 28, CUT: 6, REPLACED: 70, SHORTER: 2, LONGER: 70, "over 2 pairs": 250, "plan through a merge": 55,
-        "plan of 4 steps or more": 40, "64 facts": 10, "64 steps": 10, "8 rules and 8 hints": 7, "rule of 128 bytes": 8, "the most bytes": 2,
-        "offset over 255": 35, "place over 255": 2, "rule of 5 parts": 35, "rule of 6 parts": 16},
+        MERGED: 150, PATH: 75, HINTS: 22, CUT: 6, REPLACED: 65, SHORTER: 2, LONGER: 65, "over 2 pairs": 240, "plan through a merge": 41,
+        "plan of 4 steps or more": 36, "64 facts": 20, "64 steps": 12, "8 rules and 8 hints": 10, "rule of 128 bytes": 11, "the most bytes": 3,
+        "offset over 255": 80, "rule of 5 parts": 40, "rule of 6 parts": 20,
+        # the two forms of a step; forbidden facts must decide in a tenth of the jobs
+        "no steps": 12, "steps in the old form": 175, "steps in the new form": 175, "17 old steps or 13 new ones": 7, "an empty forbidden set": 165,
+        "a fact needed and forbidden": 30, "forbidden facts decide": 100, "another plan by forbidden facts": 42,
+        "a dearer plan by forbidden facts": 12, "no plan by forbidden facts": 21},
+    # a high bit is bit V or one above it
+    "jobs refused with": {
+        "place over 255": 4, "task of another length": 20, "high bit in start": 8, "high bit in goal": 5, "high bit in needed": 5,
+        "high bit in added": 5, "high bit in deleted": 5, "high bit in forbidden": 5, "high bit in the next set, too": 7,
+        "high bit in a later set, too": 7, "no high bit but V": 12},
     "calls with": {
-        "10 where an answer exists": 170, "over 64 slots": 10, "as many slots as pairs": 140, "one slot fewer": 90,
-        "a buffer as long as the plan": 120, "one byte shorter": 40, "search with a memo": 100, "read-through with a memo": 160,
-        "over 128 bytes written": 10, "enumeration": 150, "enumeration and hints": 14, "enumeration of 4 steps or more": 5, "enumeration and 13": 25},
+        "10 where an answer exists": 160, "over 64 slots": 12, "as many slots as pairs": 150, "one slot fewer": 90,
+        "a buffer as long as the plan": 120, "one byte shorter": 42, "search with a memo": 100, "read-through with a memo": 165,
+        "over 128 bytes written": 10, "enumeration": 140, "enumeration and hints": 14, "enumeration of 4 steps or more": 5, "enumeration and 13": 25,
+        "7 for a forbidden fact alone": 85},
     "jobs with the operator": {
-        "false": 25, "true": 25, "last": 120, "fact": 300, "step": 250, "not": 250, "and": 180, "or": 220, "next": 170, "eventually": 230,
-        "always": 230, "until": 150, "release": 100},
+        "false": 24, "true": 24, "last": 115, "fact": 275, "step": 260, "not": 245, "and": 170, "or": 220, "next": 170, "eventually": 220,
+        "always": 225, "until": 150, "release": 105},
 }
 
 FEWEST = 2000   # fewer jobs tell nothing of what is seldom, so no floor is asked of them

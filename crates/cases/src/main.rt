@@ -1,4 +1,4 @@
-// Runs the cases of document 01 that are to be executed, one after the other from standard input, and prints what each gives.
+// Runs cases of document 01 and of the cards, one after the other from standard input, and prints what each gives.
 // A case is a letter and four bytes, then its bytes:
 //   s  N 0 L L  a search of the L bytes that follow (low byte first), with a plan buffer of N bytes (2, 3 or 64)
 //   v  N 0 L L  a read-through of N steps, which stand first, in the job of L bytes after them

@@ -76,7 +76,7 @@ module _ (bytes : List ℕ) where
 
   action-numbered : (i : ℕ) → Numbered Early (actionVerdict bytes i)
   unfolding actionVerdict
-  action-numbered i = in-turn Early setCount (λ k. setVerdict bytes (setOffset bytes i k)) (λ k. set-numbered (setOffset bytes i k))
+  action-numbered i = in-turn Early (setCount bytes) (λ k. setVerdict bytes (setOffset bytes i k)) (λ k. set-numbered (setOffset bytes i k))
 
   task-numbered : Numbered Early (taskVerdict bytes)
   unfolding taskVerdict

@@ -7,13 +7,14 @@ use mathlib.Core.Bool.{true}
 use mathlib.Core.List.{List}
 use lib.Dec.{leb, eqb}
 use lib.ListN.{length}
-use borrow.Author.Tests.{leb-true, eqb-true}
+use borrow.Author.Tests.{leb-true}
 use Rattle.model.specs.declared.Verdict.the-variants.{Fine}
 use Rattle.model.specs.Verdict.{inTurn}
-use Rattle.model.specs.job.Layout.{setBytes, setCount, costBytes, taskHead, actionBytes, actionCount, pairCount, pairOffset, pairLength}
-use Rattle.model.specs.job.Layout.{taskBytes, actionOffset, setOffset, costOffset}
+use Rattle.model.specs.job.Layout.{setBytes, costBytes, taskHead, actionBytes, actionCount, pairCount, pairOffset, pairLength}
+use Rattle.model.specs.job.Layout.{taskBytes, setCount, actionOffset, setOffset, costOffset}
 use Rattle.model.specs.job.Decoding.{headVerdict, sectionStart, rightLength, pairVerdict, pairsVerdict}
 use Rattle.model.proofs.Tests.{and-both}
+use Rattle.model.proofs.job.Forms.{task-length}
 use Rattle.model.proofs.job.Accepted.{four-true, head-fine}
 use Rattle.model.proofs.job.VerdictLaws.{orElse-fine, unless-fine, inTurn-fine}
 use Rattle.job.specs.Laid.{HeadThere, ActionThere, Laid}
@@ -47,10 +48,6 @@ module _ (bytes : List ℕ) where
   formula-length zero n l h = absurd (omega arith)
   formula-length (suc i) n l h = leb-true n 128 ((and-both (leb 1 n) (leb n 128)) .0 h .1)
 
-  task-length : (n : ℕ) → rightLength bytes 0 n ≡ true → n ≡ taskBytes bytes
-  unfolding rightLength
-  task-length n h = eqb-true n (taskBytes bytes) h
-
   -- If the head and the pairs are fine, all is there.
   pub laid : headVerdict bytes ≡ Fine → pairsVerdict bytes ≡ Fine → Laid bytes
   unfolding pairsVerdict
@@ -58,7 +55,7 @@ module _ (bytes : List ℕ) where
     head = head-fine bytes h;
     pair = pair-whole (pairCount bytes) each;
     section = λ i l. leb-true _ (length bytes) (tests i l .3);
-    task = task-length _ (tests 0 some-pairs .2);
+    task = task-length bytes (tests 0 some-pairs .2);
     few-bytes = λ i m l. formula-length i _ m (tests i l .2);
   }
     where
@@ -68,12 +65,9 @@ module _ (bytes : List ℕ) where
       tests : (i : ℕ) → i < pairCount bytes → PairTrue i
       tests = pair-tests (pairCount bytes) each
 
--- The start and the goal fit before the actions; the sets of an action, and its cost after them, fit into its bytes.
+-- The start and the goal fit before the actions.
 head-fits : setBytes + setBytes ≤ taskHead
 head-fits = omega arith
-
-cost-fits : setBytes * setCount + costBytes ≤ actionBytes
-cost-fits = omega arith
 
 -- One of n pieces of s bytes ends where the last one does, or before it.
 piece-within : (s i n : ℕ) → i < n → s * i + s ≤ s * n
@@ -88,24 +82,24 @@ module _ {bytes : List ℕ} (h : HeadThere bytes) where
   goal-inside = omega (arith, h .whole, head-fits)
 
 module _ {bytes : List ℕ} {i : ℕ} (h : ActionThere bytes i) where
-  pub set-inside : (k : ℕ) → k < setCount → setOffset bytes i k + setBytes ≤ length bytes
+  pub set-inside : (k : ℕ) → k < setCount bytes → setOffset bytes i k + setBytes ≤ length bytes
   unfolding setOffset
-  set-inside k l = omega (arith, h .whole, cost-fits)
+  set-inside k l = omega (arith, h .whole)
 
-  pub set-starts : (k : ℕ) → k ≤ setCount → setOffset bytes i k ≤ length bytes
+  pub set-starts : (k : ℕ) → k ≤ setCount bytes → setOffset bytes i k ≤ length bytes
   unfolding setOffset
-  set-starts k l = omega (arith, h .whole, cost-fits)
+  set-starts k l = omega (arith, h .whole)
 
   pub cost-inside : costOffset bytes i + costBytes ≤ length bytes
   unfolding costOffset
-  cost-inside = omega (arith, h .whole, cost-fits)
+  cost-inside = omega (arith, h .whole)
 
 -- Where the head and the pairs are fine, the bytes of the task are there.
 module _ {bytes : List ℕ} (l : Laid bytes) where
   pub task-pair : 8 ≤ length bytes
   task-pair = l .pair 0 (some-pairs bytes)
 
-  task-inside : pairOffset bytes 0 + taskBytes bytes ≤ length bytes
+  task-inside : pairOffset bytes 0 + taskBytes bytes (setCount bytes) ≤ length bytes
   task-inside = omega (arith, l .section 0 (some-pairs bytes), l .task)
 
   pub head-there : HeadThere bytes
@@ -114,4 +108,4 @@ module _ {bytes : List ℕ} (l : Laid bytes) where
 
   pub action-there : (i : ℕ) → i < actionCount bytes → ActionThere bytes i
   unfolding taskBytes actionOffset
-  action-there i h = record { pair = task-pair; whole = omega (arith, task-inside, piece-within actionBytes i (actionCount bytes) h) }
+  action-there i h = record { pair = task-pair; whole = omega (arith, task-inside, piece-within (actionBytes (setCount bytes)) i (actionCount bytes) h) }

@@ -3,4 +3,5 @@ pub mod TurnLaws
 pub mod PairLaws
 pub mod SetLaws
 pub mod Bounds
+pub mod Counts
 pub mod Accepted

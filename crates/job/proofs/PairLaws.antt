@@ -1,12 +1,12 @@
 -- Laws of the pairs' tests, as the code makes them.
-use mathlib.Core.Path.{_≡_, refl}
+use mathlib.Core.Path.{_≡_, refl, sym, _∙_}
 use Prim.Native.Nat.{ℕ, zero, suc, _+_, _-_, _*_, _≤_, _<_}
 use native.Mathlib.Omega.{arith}
-use mathlib.Core.Bool.{false}
+use mathlib.Core.Bool.{Bool, false}
 use mathlib.Core.List.{List}
 use lib.Dec.{leb, eqb}
-use borrow.Author.Tests.{lt-leb, le-leb}
-use Rattle.model.specs.job.Layout.{taskBytes, pairCount, pairOffset, pairLength}
+use borrow.Author.Tests.{lt-leb, le-leb, eq-eqb, ne-eqb}
+use Rattle.model.specs.job.Layout.{plainSets, allSets, taskBytes, pairCount, pairOffset, pairLength}
 use Rattle.model.specs.job.Decoding.{sectionStart, rightLength}
 
 module _ (bytes : List ℕ) where
@@ -21,10 +21,18 @@ module _ (bytes : List ℕ) where
   start-next zero z a b = absurd (z refl)
   start-next (suc i) z a b = let e : suc i - 1 ≡ i = omega arith in rw (a, b, e)
 
-  -- The task section's length.
-  pub length-task : (i n : ℕ) {t : ℕ} → i ≡ 0 → t ≡ taskBytes bytes → eqb n t ≡ rightLength bytes i n
-  unfolding rightLength
+  -- Section 0 is the task.
+  pub length-task : (i n : ℕ) {b : Bool} → i ≡ 0 → b ≡ rightLength bytes 0 n → b ≡ rightLength bytes i n
   length-task i n e h = rw (e, h)
+
+  -- The task section's length is the shorter one, or it is the longer one.
+  pub length-plain : (n : ℕ) {t : ℕ} → t ≡ taskBytes bytes plainSets → n ≡ t → eqb n t ≡ rightLength bytes 0 n
+  unfolding rightLength
+  length-plain n h e = rw (h, eq-eqb n (taskBytes bytes plainSets) (e ∙ h))
+
+  pub length-all : (n : ℕ) {t u : ℕ} → t ≡ taskBytes bytes plainSets → (n ≡ t → ⊥) → u ≡ taskBytes bytes allSets → eqb n u ≡ rightLength bytes 0 n
+  unfolding rightLength
+  length-all n h d k = rw (ne-eqb n (taskBytes bytes plainSets) (λ e. d (e ∙ sym h)), k)
 
   -- A formula of no bytes, and one of some.
   pub length-none : (i n : ℕ) → (i ≡ 0 → ⊥) → n < 1 → false ≡ rightLength bytes i n

@@ -5,7 +5,8 @@ use mathlib.Core.List.{List}
 use lib.ListN.{length}
 use Rattle.model.specs.logic.Parts.{mostParts, partsOf}
 use Rattle.model.specs.logic.Reading.{formula, parsed}
-use Rattle.model.specs.job.Layout.{taskHead, actionBytes, pairCount, pairOffset, pairLength, sectionBytes, taskBytes, actionOffset, formulaIn, formulaAt}
+use Rattle.model.specs.job.Layout.{taskHead, actionBytes, pairCount, pairOffset, pairLength, sectionBytes, taskBytes, setCount, actionOffset}
+use Rattle.model.specs.job.Layout.{formulaIn, formulaAt}
 use Rattle.model.proofs.job.Accepted.{FineHead}
 
 -- The first pair, which says where the task section is and ends at byte 8, is there, and so are the bytes of the start and the goal.
@@ -16,7 +17,7 @@ pub record HeadThere (bytes : List ℕ) : Type 0 where
 -- The first pair is there, and so are the bytes of action i.
 pub record ActionThere (bytes : List ℕ) (i : ℕ) : Type 0 where
   pub pair : 8 ≤ length bytes
-  pub whole : actionOffset bytes i + actionBytes ≤ length bytes
+  pub whole : actionOffset bytes i + actionBytes (setCount bytes) ≤ length bytes
 
 -- The head and the pairs are fine: all that a reader looks at is there.
 pub record Laid (bytes : List ℕ) : Type 0 where
@@ -25,7 +26,7 @@ pub record Laid (bytes : List ℕ) : Type 0 where
   pub pair : (i : ℕ) → i < pairCount bytes → 8 + 4 * i ≤ length bytes
   pub section : (i : ℕ) → i < pairCount bytes → pairOffset bytes i + pairLength bytes i ≤ length bytes
   -- the task section has as many bytes as its actions fill
-  pub task : pairLength bytes 0 ≡ taskBytes bytes
+  pub task : pairLength bytes 0 ≡ taskBytes bytes (setCount bytes)
   -- a formula has at most 128 bytes
   pub few-bytes : (i : ℕ) → 1 ≤ i → i < pairCount bytes → pairLength bytes i ≤ 128
 

@@ -3,21 +3,24 @@ ghost use mathlib.Core.Path.{_≡_};
 ghost use Prim.Native.Nat.{_+_, _*_, _≤_, _<_};
 ghost use lib.ListN.{length};
 ghost use Rattle.model.specs.Bits.{numberAt};
-ghost use Rattle.model.specs.job.Layout.{setBytes, setCount, factCount, actionCount, constraintCount, hintCount, pairCount, pairOffset, pairLength};
-ghost use Rattle.model.specs.job.Layout.{taskBytes, actionOffset, setOffset, actionAt, jobOf};
+ghost use Rattle.model.specs.job.Layout.{setBytes, allSets, actionBytes, factCount, actionCount, constraintCount, hintCount, pairCount, pairOffset, pairLength};
+ghost use Rattle.model.specs.job.Layout.{taskBytes, forbids, setCount, actionOffset, setOffset, actionAt, jobOf};
 ghost use Rattle.job.specs.Laid.{HeadThere, ActionThere};
 
 // A set of facts has 64 bits.
 pub const SET: usize = 8;
 
-// An action has this many sets: the needed, the added and the deleted facts.
-pub const SETS: usize = 3;
+// An action has the needed, the added and the deleted facts.
+pub const PLAIN_SETS: usize = 3;
+
+// In a longer task it has the forbidden facts as well.
+pub const ALL_SETS: usize = 4;
+
+// A cost has 16 bits.
+const COST: usize = 2;
 
 // The start and the goal stand before the actions.
 const TASK_HEAD: usize = 16;
-
-// An action is its sets and its cost.
-const ACTION: usize = 26;
 
 pub fn fact_count(bytes: &[u8]) -> u8
     requires { ⌜ 4 ≤ length (now bytes) ⌝ }
@@ -83,12 +86,36 @@ pub fn section_length(bytes: &[u8], i: usize) -> usize
     words::get16(bytes, 6 + 4 * i) as usize
 }
 
-// How many bytes the task section must have.
-pub fn task_bytes(bytes: &[u8]) -> usize
-    requires { ⌜ 4 ≤ length (now bytes) ⌝ }
-    ensures { λ r. ⌜ r ≡ taskBytes (now (bytes .entry)) ⌝ }
+// How many bytes an action of so many sets has.
+fn action_bytes(sets: usize) -> usize
+    requires { ⌜ sets ≤ allSets ⌝ }
+    ensures { λ r. ⌜ (r ≡ actionBytes sets) × (r ≤ actionBytes allSets) ⌝ }
 {
-    TASK_HEAD + ACTION * wide(action_count(bytes))
+    SET * sets + COST
+}
+
+// How many bytes the task section has where each action has so many sets.
+pub fn task_bytes(bytes: &[u8], sets: usize) -> usize
+    requires { ⌜ (4 ≤ length (now bytes)) × (sets ≤ allSets) ⌝ }
+    ensures { λ r. ⌜ r ≡ taskBytes (now (bytes .entry)) sets ⌝ }
+{
+    TASK_HEAD + action_bytes(sets) * wide(action_count(bytes))
+}
+
+// Whether each action has a set of forbidden facts, which the task section's length tells.
+fn forbids(bytes: &[u8]) -> bool
+    requires { ⌜ 8 ≤ length (now bytes) ⌝ }
+    ensures { λ r. ⌜ r ≡ forbids (now (bytes .entry)) ⌝ }
+{
+    section_length(bytes, 0) == task_bytes(bytes, ALL_SETS)
+}
+
+// How many sets each action has.
+pub fn set_count(bytes: &[u8]) -> usize
+    requires { ⌜ 8 ≤ length (now bytes) ⌝ }
+    ensures { λ r. ⌜ (r ≡ setCount (now (bytes .entry))) × (r ≤ allSets) ⌝ }
+{
+    if forbids(bytes) { ALL_SETS } else { PLAIN_SETS }
 }
 
 // The facts that are true at the start.
@@ -112,12 +139,12 @@ fn action_offset(bytes: &[u8], i: usize) -> usize
     requires { ⌜ ActionThere (now bytes) i ⌝ }
     ensures { λ r. ⌜ r ≡ actionOffset (now (bytes .entry)) i ⌝ }
 {
-    section_offset(bytes, 0) + TASK_HEAD + ACTION * i
+    section_offset(bytes, 0) + TASK_HEAD + action_bytes(set_count(bytes)) * i
 }
 
 // Where set k of action i stands; after the last one stands the cost.
 pub fn set_offset(bytes: &[u8], i: usize, k: usize) -> usize
-    requires { ⌜ ActionThere (now bytes) i × (k ≤ setCount) ⌝ }
+    requires { ⌜ ActionThere (now bytes) i × (k ≤ setCount (now bytes)) ⌝ }
     ensures { λ r. ⌜ r ≡ setOffset (now (bytes .entry)) i k ⌝ }
 {
     action_offset(bytes, i) + SET * k
@@ -125,7 +152,7 @@ pub fn set_offset(bytes: &[u8], i: usize, k: usize) -> usize
 
 // Set k of action i.
 fn action_set(bytes: &[u8], i: usize, k: usize) -> u64
-    requires { ⌜ ActionThere (now bytes) i × (k < setCount) ⌝ }
+    requires { ⌜ ActionThere (now bytes) i × (k < setCount (now bytes)) ⌝ }
     ensures { λ r. ⌜ r ≡ numberAt setBytes (now (bytes .entry)) (setOffset (now (bytes .entry)) i k) ⌝ }
 {
     words::get64(bytes, set_offset(bytes, i, k))
@@ -155,9 +182,21 @@ pub fn action_del(bytes: &[u8], i: usize) -> u64
     action_set(bytes, i, 2)
 }
 
+// The facts that must not be true for action i.
+pub fn action_forbidden(bytes: &[u8], i: usize) -> u64
+    requires { ⌜ ActionThere (now bytes) i ⌝ }
+    ensures { λ r. ⌜ r ≡ actionAt (now (bytes .entry)) i .forbidden ⌝ }
+{
+    if forbids(bytes) {
+        action_set(bytes, i, 3)
+    } else {
+        0
+    }
+}
+
 pub fn action_cost(bytes: &[u8], i: usize) -> u64
     requires { ⌜ ActionThere (now bytes) i ⌝ }
     ensures { λ r. ⌜ (r ≡ actionAt (now (bytes .entry)) i .cost) × (r < 65536) ⌝ }
 {
-    words::get16(bytes, set_offset(bytes, i, SETS))
+    words::get16(bytes, set_offset(bytes, i, set_count(bytes)))
 }

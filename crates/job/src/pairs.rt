@@ -21,13 +21,22 @@ fn section_start(bytes: &[u8], i: usize) -> usize
     access::section_offset(bytes, i - 1) + access::section_length(bytes, i - 1)
 }
 
+// Whether the task section may have n bytes: its actions have forbidden facts or not.
+fn task_length(bytes: &[u8], n: usize) -> bool
+    requires { ⌜ 4 ≤ length (now bytes) ⌝ }
+    ensures { λ r. ⌜ r ≡ rightLength (now (bytes .entry)) 0 n ⌝ }
+{
+    n == access::task_bytes(bytes, access::PLAIN_SETS)
+        || n == access::task_bytes(bytes, access::ALL_SETS)
+}
+
 // Whether section i may have n bytes.
 fn right_length(bytes: &[u8], i: usize, n: usize) -> bool
     requires { ⌜ 4 ≤ length (now bytes) ⌝ }
     ensures { λ r. ⌜ r ≡ rightLength (now (bytes .entry)) i n ⌝ }
 {
     if i == 0 {
-        return n == access::task_bytes(bytes);
+        return task_length(bytes, n);
     }
     if n < 1 {
         return false;

@@ -36,8 +36,9 @@ fn check_action(bytes: &[u8], i: usize) -> Verdict
     requires { ⌜ Laid (now bytes) × (i < actionCount (now bytes)) ⌝ }
     ensures { λ r. ⌜ r ≡ actionVerdict (now (bytes .entry)) i ⌝ }
 {
+    let n = access::set_count(bytes);
     let mut k = 0;
-    while k < access::SETS {
+    while k < n {
         let verdict = check_set(bytes, access::set_offset(bytes, i, k));
         if checks::refuses(verdict) {
             return verdict;

@@ -1,12 +1,12 @@
 -- The definitions evaluated on small jobs: that they compute, and say what a reader expects.
 use mathlib.Core.Path.{_≡_, refl}
 use Prim.Native.Nat.{ℕ}
-use mathlib.Core.List.{List, [], _∷_, map}
+use mathlib.Core.List.{List, [], _∷_, _++_, map}
 use Rattle.model.specs.declared.Verdict.the-variants.{Fine, Bad}
 use Rattle.model.specs.declared.Validated.the-variants.{Passed, Refused}
-use Rattle.model.specs.declared.Searched.the-variants.{Refused as NotFound}
+use Rattle.model.specs.declared.Searched.the-variants.{Planned, Refused as NotFound}
 use Rattle.model.specs.Verdict.{refusal}
-use Rattle.model.specs.Cases.{P, P-rule, P-hint}
+use Rattle.model.specs.Cases.{facts, P, P-rule, P-hint}
 use Rattle.model.specs.job.Decoding.{jobVerdict}
 use Rattle.model.specs.job.Layout.{jobOf}
 use Rattle.model.specs.search.JobSystem.{reachedCount}
@@ -48,3 +48,38 @@ five-nodes = refl
 short-buffer : ruled P (7 ∷ []) (9 ∷ 9 ∷ []) ≡ record { result = NotFound (refusal 13 3); table = 0 ∷ []; plan = 9 ∷ 9 ∷ [] }
 unfolding ruled P
 short-buffer = refl
+
+-- ---- job P with forbidden facts
+
+-- its pair is 8, 118; the forbidden facts of sand, lamp and pass
+unfoldable forbidding : ℕ → ℕ → ℕ → List ℕ
+unfolding facts
+forbidding sand lamp pass =
+    (3 ∷ 3 ∷ 0 ∷ 0 ∷ []) ++ (8 ∷ 0 ∷ 118 ∷ 0 ∷ []) ++ facts 0 ++ facts 4
+    ++ facts 0 ++ facts 1 ++ facts 0 ++ facts sand ++ (5 ∷ 0 ∷ [])
+    ++ facts 0 ++ facts 2 ++ facts 0 ++ facts lamp ++ (2 ∷ 0 ∷ [])
+    ++ facts 3 ++ facts 4 ++ facts 0 ++ facts pass ++ (9 ∷ 0 ∷ [])
+
+-- with nothing forbidden it is job P
+same-job : jobOf (forbidding 0 0 0) ≡ jobOf P
+unfolding jobOf forbidding P
+same-job = refl
+
+-- the lamp only before sanding: 1 0 2; also no sanding with the lamp on, or a pass that forbids what it needs: 12
+planned-or-not : map (λ (job : List ℕ). ruled job [] (9 ∷ 9 ∷ 9 ∷ []) .result) (forbidding 0 1 0 ∷ forbidding 2 1 0 ∷ forbidding 0 0 1 ∷ [])
+    ≡ Planned 16 3 ∷ NotFound (refusal 12 0) ∷ NotFound (refusal 12 0) ∷ []
+unfolding ruled forbidding
+planned-or-not = refl
+
+lamp-first : ruled (forbidding 0 1 0) [] (9 ∷ 9 ∷ 9 ∷ []) .plan ≡ 1 ∷ 0 ∷ 2 ∷ []
+unfolding ruled forbidding
+lamp-first = refl
+
+not-with-lamp : validated (forbidding 2 0 0) (1 ∷ 0 ∷ 2 ∷ []) ≡ Refused (refusal 7 1)
+unfolding validated forbidding
+not-with-lamp = refl
+
+-- a bit above the facts in the forbidden set of the last action: 3, at that set
+unknown-fact : jobVerdict (forbidding 0 0 8) ≡ Bad (refusal 3 116)
+unfolding jobVerdict forbidding
+unknown-fact = refl

@@ -1,5 +1,6 @@
--- Jobs: accepted ones are proper, their systems meet the laws of exploration, and the plan found is the best.
+-- Jobs: the two forms of a task; accepted jobs are proper, their systems meet the laws of exploration, and the plan found is the best.
 pub mod VerdictLaws
+pub mod Forms
 pub mod Accepted
 pub mod PlanLaws
 pub mod ReadThrough

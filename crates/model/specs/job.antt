@@ -2,3 +2,4 @@
 pub mod Job
 pub mod Layout
 pub mod Decoding
+pub mod OldForm

@@ -17,7 +17,7 @@ module _ (j : Job) where
   -- ---- the actions
 
   -- After the last one, none does anything.
-  pub action-none : (i : ℕ) → length (j .actions) ≤ i → record { pre = 0; add = 0; del = 0; cost = 0 } ≡ actionOf j i
+  pub action-none : (i : ℕ) → length (j .actions) ≤ i → record { pre = 0; add = 0; del = 0; forbidden = 0; cost = 0 } ≡ actionOf j i
   unfolding actionOf noAction
   action-none i h = sym (List·getD-eq-default (j .actions) noAction h)
 

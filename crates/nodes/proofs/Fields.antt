@@ -33,9 +33,10 @@ length-left φs n rs w k l = length-progressedAll φs (take n rs) w (length-take
 
 -- The numbers of action i, read with its number k as an index.
 module _ (bytes : List ℕ) {i k : ℕ} (e : k ≡ i) (l : i < actionCount bytes) where
-  pub action-read : {p a d c : ℕ} → p ≡ actionAt bytes k .pre → a ≡ actionAt bytes k .add → d ≡ actionAt bytes k .del → c ≡ actionAt bytes k .cost
-      → _≡_ {A = Action} (record { pre = p; add = a; del = d; cost = c }) (actionOf (jobOf bytes) i)
-  action-read p a d c = rw (action-of bytes i l, ← e) (λ t. record { pre = p t; add = a t; del = d t; cost = c t })
+  pub action-read : {p a d f c : ℕ} → p ≡ actionAt bytes k .pre → a ≡ actionAt bytes k .add → d ≡ actionAt bytes k .del
+      → f ≡ actionAt bytes k .forbidden → c ≡ actionAt bytes k .cost
+      → _≡_ {A = Action} (record { pre = p; add = a; del = d; forbidden = f; cost = c }) (actionOf (jobOf bytes) i)
+  action-read p a d f c = rw (action-of bytes i l, ← e) (λ t. record { pre = p t; add = a t; del = d t; forbidden = f t; cost = c t })
 
   pub cost-read : {c : ℕ} → c ≡ actionAt bytes k .cost → c ≡ actionOf (jobOf bytes) i .cost
   cost-read c = rw (action-of bytes i l, ← e) c

@@ -33,6 +33,7 @@ pub fn action_of(job: &[u8], i: u8) -> Action
         pre: access::action_pre(job, k),
         add: access::action_add(job, k),
         del: access::action_del(job, k),
+        forbidden: access::action_forbidden(job, k),
         cost: access::action_cost(job, k),
     }
 }
@@ -49,6 +50,7 @@ fn action_or_none(job: &[u8], i: u8) -> Action
         pre: 0,
         add: 0,
         del: 0,
+        forbidden: 0,
         cost: 0,
     }
 }

@@ -5,7 +5,7 @@ use Rattle.model.specs.job.Job.{Action}
 use Rattle.model.specs.exploration.Key.{Key}
 
 abbrev pub actionIs : code.Action → Action
-actionIs a = record { pre = a .pre; add = a .add; del = a .del; cost = a .cost }
+actionIs a = record { pre = a .pre; add = a .add; del = a .del; forbidden = a .forbidden; cost = a .cost }
 
 abbrev pub keyIs : order.Key → Key
 keyIs k = record { cost = k .cost; steps = k .steps }

@@ -11,11 +11,12 @@ ghost use Rattle.model.specs.exploration.Key.{extend, less, sameKey};
 ghost use Rattle.task.specs.Meaning.{actionIs, keyIs};
 ghost use Rattle.task.specs.Applicable.{applicableSet};
 
-// Document 01 calls an action a step. Each of the three sets is a number whose bit i is fact i.
+// Document 01 calls an action a step. Each of the four sets is a number whose bit i is fact i.
 pub struct Action {
     pub pre: u64,
     pub add: u64,
     pub del: u64,
+    pub forbidden: u64,
     pub cost: u64,
 }
 
@@ -35,7 +36,7 @@ impl State {
     pub fn applicable(self, a: Action) -> bool
         ensures { λ r. ⌜ r ≡ applicable (actionIs a) (self .facts) ⌝ }
     {
-        a.pre & self.facts == a.pre
+        a.pre & self.facts == a.pre && a.forbidden & self.facts == 0
     }
 
     // Deleted facts go first, so that a fact that is deleted and added is true afterwards.

@@ -22,6 +22,7 @@ use Rattle.model.specs.job.Decoding.{countsInRange, partsVerdict, formul
 use Rattle.model.specs.job.Decoding.{setVerdict, actionVerdict, taskVerdict, formulasVerdict, jobVerdict}
 use Rattle.model.proofs.exploration.Each.{All}
 use Rattle.model.proofs.Tests.{and-both}
+use Rattle.model.proofs.job.Forms.{plain-there}
 use Rattle.model.proofs.job.VerdictLaws.{bad-not-fine, orElse-fine, unless-fine, inTurn-fine, length-listOf, getD-listOf, all-listOf}
 
 -- No formula has more carried parts than it may.
@@ -117,19 +118,19 @@ module _ (bytes : List ℕ) where
       go (wrong p) e = absurd (bad-not-fine (rw (e, formulaVerdict) at h))
 
   -- Each set of each action of an accepted task has no bit 64 or above.
-  sets-lt : factCount bytes ≤ 64 → taskVerdict bytes ≡ Fine → (i k : ℕ) → i < actionCount bytes → k < setCount
+  sets-lt : factCount bytes ≤ 64 → taskVerdict bytes ≡ Fine → (i k : ℕ) → i < actionCount bytes → k < setCount bytes
       → numberAt setBytes bytes (setOffset bytes i k) < 2 ^ 64
   unfolding taskVerdict actionVerdict
   sets-lt v h i k l m =
       let a = (orElse-fine (setVerdict bytes (pairOffset bytes 0)) _) .0 h in
       let b = (orElse-fine (setVerdict bytes (pairOffset bytes 0 + setBytes)) _) .0 (a .1) in
       let c = (inTurn-fine (actionCount bytes) (actionVerdict bytes)) .0 (b .1) i l in
-      set-lt v (setOffset bytes i k) ((inTurn-fine setCount (λ j. setVerdict bytes (setOffset bytes i j))) .0 c k m)
+      set-lt v (setOffset bytes i k) ((inTurn-fine (setCount bytes) (λ j. setVerdict bytes (setOffset bytes i j))) .0 c k m)
 
   -- The facts that an accepted action adds are below 64.
   action-add : factCount bytes ≤ 64 → taskVerdict bytes ≡ Fine → (i : ℕ) → i < actionCount bytes → actionAt bytes i .add < 2 ^ 64
   unfolding actionAt
-  action-add v h i l = sets-lt v h i 1 l (omega arith)
+  action-add v h i l = sets-lt v h i 1 l (omega (arith, plain-there bytes))
 
   -- So are those of every action number: an action that the job does not have adds none.
   add-below : factCount bytes ≤ 64 → taskVerdict bytes ≡ Fine → (i : ℕ) → actionOf (jobOf bytes) i .add < 2 ^ 64

@@ -1,5 +1,5 @@
 -- Laws of checks made one after the other, and of lists of the first so many values.
-use mathlib.Core.Path.{_≡_, refl, sym, ap, _∙_, subst}
+use mathlib.Core.Path.{_≡_, refl, sym, ap, ap₂, _∙_, subst}
 use mathlib.Core.Logic.{_↔_}
 use Prim.Native.Nat.{ℕ, zero, suc, _<_}
 use native.Mathlib.Omega.{arith}
@@ -66,6 +66,12 @@ inTurn-first (suc n) i f {r} h b l = go (decLt i n) (inTurn-first n i f h b)
         let e : i ≡ n = omega arith in
         ap (λ (u : Verdict). orElse u (f n)) (subst (λ (k : ℕ). inTurn k f ≡ Fine) e h) ∙ subst (λ (k : ℕ). f k ≡ Bad r) e b
 
+-- Equal checks refuse alike.
+pub inTurn-cong : (n : ℕ) (f g : ℕ → Verdict) → ((i : ℕ) → i < n → f i ≡ g i) → inTurn n f ≡ inTurn n g
+unfolding inTurn
+inTurn-cong zero f g h = refl
+inTurn-cong (suc n) f g h = ap₂ orElse (inTurn-cong n f g (λ i l. h i (omega arith))) (h n (omega arith))
+
 module _ {A : Type 0} (f : ℕ → A) where
   pub length-listOf : (n : ℕ) → length (listOf f n) ≡ n
   unfolding listOf
@@ -83,6 +89,12 @@ module _ {A : Type 0} (f : ℕ → A) where
       go (no a) ih =
           let e : n ≡ i = omega arith in
           getD-at (listOf f n) (f n) [] d i (length-listOf n ∙ e) ∙ ap f e
+
+  -- Equal values make equal lists.
+  pub listOf-cong : (g : ℕ → A) (n : ℕ) → ((i : ℕ) → i < n → f i ≡ g i) → listOf f n ≡ listOf g n
+  unfolding listOf
+  listOf-cong g zero h = refl
+  listOf-cong g (suc n) h = ap₂ (λ (xs : List A) (x : A). xs ++ (x ∷ [])) (listOf-cong g n (λ i l. h i (omega arith))) (h n (omega arith))
 
   -- What holds of each value holds of the list.
   pub all-listOf : (P : A → Type 0) (n : ℕ) → ((i : ℕ) → i < n → P (f i)) → All P (listOf f n)

@@ -1,18 +1,19 @@
 -- What the definitions of states say of each fact.
 use mathlib.Core.Path.{_≡_, refl, sym, ap, ap₂, _∙_}
-use Prim.Native.Nat.{ℕ, zero, suc, _+_, _-_, _^_, _<_}
+use Prim.Native.Nat.{ℕ, zero, suc, _+_, _-_, _^_, _≤_, _<_}
 use native.Mathlib.Nat.{pow-suc, lt-of-lt-of-le}
 use native.Mathlib.Omega.{arith}
-use mathlib.Core.Bool.{Bool, true, false, not, _&&_, _||_}
+use mathlib.Core.Bool.{Bool, true, false, not, _&&_, _||_, true≢false}
 use mathlib.Core.Logic.{_↔_}
 use lib.Bits.{bitAnd, bitOr, or-disjoint, and-le-l, and-le-r, or-lt}
 use lib.Pow.{pow-mono}
 use borrow.Author.Tests.{eqb-true, eq-eqb}
 use Rattle.model.specs.Bits.{bit, ofBits}
 use Rattle.model.specs.job.Job.{Action}
-use Rattle.model.specs.task.State.{within, after}
+use Rattle.model.specs.task.State.{within, apart, applicable, after}
 use Rattle.model.proofs.bits.Bits.{ofBits-lt, bit-ofBits, bits-ext, bit-zero}
 use Rattle.model.proofs.bits.Bitwise.{bit-and, bit-or}
+use Rattle.model.proofs.Tests.{and-both}
 
 pub lt-pow : (n : ℕ) → n < 2 ^ n
 lt-pow zero = omega arith
@@ -23,13 +24,18 @@ below : (x n : ℕ) → x < n → x < 2 ^ n
 below x n h = let l : x < 2 ^ x = lt-pow x in let m : 2 ^ x < 2 ^ n = lt-of-lt-of-le (omega (arith, pow-suc 2 x)) (pow-mono h) in omega arith
 
 module _ (xs ys : ℕ) where
+  -- the facts in common, told by their bits
+  in-common : (zs : ℕ) → zs ≤ xs → ((i : ℕ) → bit xs i && bit ys i ≡ bit zs i) → bitAnd xs ys ≡ zs
+  in-common zs l h =
+      bits-ext (suc xs) (bitAnd xs ys) zs (below (bitAnd xs ys) (suc xs) (omega (arith, and-le-l xs ys))) (below zs (suc xs) (omega arith))
+      (λ i m. bit-and xs ys i ∙ h i)
+
   -- every fact of xs is one of ys
   pub within-facts : (within xs ys ≡ true) ↔ ((i : ℕ) → bit xs i ≡ true → bit ys i ≡ true)
   unfolding within
   within-facts = (
     λ e i h. and-right (bit xs i) (bit ys i) (sym (bit-and xs ys i) ∙ ap (λ (x : ℕ). bit x i) (eqb-true (bitAnd xs ys) xs e) ∙ h),
-    λ f. eq-eqb (bitAnd xs ys) xs (bits-ext (suc xs) (bitAnd xs ys) xs (below (bitAnd xs ys) (suc xs) (omega (arith, and-le-l xs ys))) (below xs (suc xs) (omega arith))
-        (λ i l. bit-and xs ys i ∙ both (bit xs i) (bit ys i) (f i))),
+    λ f. eq-eqb (bitAnd xs ys) xs (in-common xs (omega arith) (λ i. both (bit xs i) (bit ys i) (f i))),
   )
     where
       and-right : (a b : Bool) → a && b ≡ true → b ≡ true
@@ -40,6 +46,49 @@ module _ (xs ys : ℕ) where
       both : (a b : Bool) → (a ≡ true → b ≡ true) → a && b ≡ a
       both true b h = h refl
       both false b h = refl
+
+  -- no fact of xs is one of ys
+  pub apart-facts : (apart xs ys ≡ true) ↔ ((i : ℕ) → bit xs i ≡ true → bit ys i ≡ false)
+  unfolding apart
+  apart-facts = (
+    λ e i h. not-both (bit xs i) (bit ys i) (sym (bit-and xs ys i) ∙ ap (λ (x : ℕ). bit x i) (eqb-true (bitAnd xs ys) 0 e) ∙ bit-zero i) h,
+    λ f. eq-eqb (bitAnd xs ys) 0 (in-common 0 (omega arith) (λ i. neither (bit xs i) (bit ys i) (f i) ∙ sym (bit-zero i))),
+  )
+    where
+      not-both : (a b : Bool) → a && b ≡ false → a ≡ true → b ≡ false
+      not-both true b h e = h
+      not-both false b h e = absurd (true≢false (sym e))
+
+      neither : (a b : Bool) → (a ≡ true → b ≡ false) → a && b ≡ false
+      neither true b h = h refl
+      neither false b h = refl
+
+module _ (a : Action) where
+  -- An action is applicable exactly if every needed fact is true and no forbidden one is.
+  pub applicable-facts : (s : ℕ) → (applicable a s ≡ true)
+      ↔ (((i : ℕ) → bit (a .pre) i ≡ true → bit s i ≡ true) × ((i : ℕ) → bit (a .forbidden) i ≡ true → bit s i ≡ false))
+  unfolding applicable
+  applicable-facts s = (
+    λ h. let p = (and-both (within (a .pre) s) (apart (a .forbidden) s)) .0 h in ((within-facts _ s) .0 (p .0), (apart-facts _ s) .0 (p .1)),
+    λ h. (and-both (within (a .pre) s) (apart (a .forbidden) s)) .1 ((within-facts _ s) .1 (h .0), (apart-facts _ s) .1 (h .1)),
+  )
+
+  -- An action that forbids a fact which it needs is never applicable.
+  pub never-applicable : (s i : ℕ) → bit (a .pre) i ≡ true → bit (a .forbidden) i ≡ true → applicable a s ≡ false
+  never-applicable s i n f = go (applicable a s) refl
+    where
+      go : (b : Bool) → applicable a s ≡ b → applicable a s ≡ false
+      go true e = let p = (applicable-facts s) .0 e in absurd (true≢false (sym (p .0 i n) ∙ p .1 i f))
+      go false e = e
+
+  -- An action that forbids nothing is applicable if all needed facts are true.
+  pub nothing-forbidden : a .forbidden ≡ 0 → (s : ℕ) → applicable a s ≡ within (a .pre) s
+  unfolding applicable
+  nothing-forbidden e s = rw (e, (apart-facts 0 s) .1 (λ i h. absurd (true≢false (sym h ∙ bit-zero i)))) (and-true (within (a .pre) s))
+    where
+      and-true : (b : Bool) → b && true ≡ b
+      and-true true = refl
+      and-true false = refl
 
 -- taking away the facts in common
 left-over : (n s d : ℕ) → s < 2 ^ n → s - bitAnd s d ≡ ofBits n (λ i. bit s i && not (bit d i))

@@ -1,6 +1,6 @@
 -- The refusals 1 to 5, in the order of document 01's table.
 use Prim.Native.Nat.{ℕ, zero, suc, _+_, _-_, _*_, _^_}
-use mathlib.Core.Bool.{Bool, _&&_}
+use mathlib.Core.Bool.{Bool, _&&_, _||_}
 use mathlib.Core.List.{List, [], _∷_}
 use lib.ListN.{length, drop}
 use lib.Dec.{eqb, ltb, leb}
@@ -10,8 +10,8 @@ use Rattle.model.specs.Bits.{numberAt}
 use Rattle.model.specs.Verdict.{refusal, unless, orElse, inTurn}
 use Rattle.model.specs.logic.Reading.{Parsed, formula, wrong}
 use Rattle.model.specs.logic.Parts.{mostParts, Part, partsOf}
-use Rattle.model.specs.job.Layout.{setBytes, setCount, factCount, actionCount, constraintCount, hintCount, pairCount, pairOffset, pairLength}
-use Rattle.model.specs.job.Layout.{taskBytes, setOffset, formulaIn}
+use Rattle.model.specs.job.Layout.{setBytes, plainSets, allSets, factCount, actionCount, constraintCount, hintCount, pairCount}
+use Rattle.model.specs.job.Layout.{pairOffset, pairLength, taskBytes, setCount, setOffset, formulaIn}
 
 -- "V and A outside their ranges"
 unfoldable pub countsInRange : ℕ → ℕ → Bool
@@ -40,10 +40,10 @@ module _ (bytes : List ℕ) where
   sectionStart zero = 4 + 4 * pairCount bytes
   sectionStart (suc i) = pairOffset bytes i + pairLength bytes i
 
-  -- the task section has exactly the bytes of its start, goal and actions; a formula's "has 1 to 128 bytes"
+  -- the task section has exactly the bytes of its start, goal and actions, with or without forbidden facts; a formula's "has 1 to 128 bytes"
   unfoldable pub rightLength : ℕ → ℕ → Bool
   unfolding taskBytes
-  rightLength zero n = eqb n (taskBytes bytes)
+  rightLength zero n = eqb n (taskBytes bytes plainSets) || eqb n (taskBytes bytes allSets)
   rightLength (suc i) n = leb 1 n && leb n 128
 
   -- pairs, in turn: "pair or section not whole, not adjoining, wrong length"
@@ -64,8 +64,8 @@ module _ (bytes : List ℕ) where
   setVerdict o = unless (ltb (numberAt setBytes bytes o) (2 ^ factCount bytes)) 3 o
 
   unfoldable pub actionVerdict : ℕ → Verdict
-  unfolding inTurn setVerdict setOffset
-  actionVerdict i = inTurn setCount (λ k. setVerdict (setOffset bytes i k))
+  unfolding inTurn setVerdict setCount setOffset
+  actionVerdict i = inTurn (setCount bytes) (λ k. setVerdict (setOffset bytes i k))
 
   unfoldable pub taskVerdict : Verdict
   unfolding inTurn orElse setVerdict actionVerdict pairOffset actionCount

@@ -4,11 +4,12 @@ use mathlib.Core.List.{List, [], _∷_, _++_}
 use lib.ListN.{getD}
 use Rattle.model.specs.logic.Formula.{Formula}
 
--- Document 01 calls an action a step: needed, added and deleted facts as bits of a number, and the cost.
+-- Document 01 calls an action a step: needed, added, deleted and forbidden facts as bits of numbers, and the cost.
 pub record Action : Type 0 where
   pub pre : ℕ
   pub add : ℕ
   pub del : ℕ
+  pub forbidden : ℕ
   pub cost : ℕ
 
 -- A constraint is a rule of document 01.
@@ -20,7 +21,7 @@ pub record Job : Type 0 where
   pub hints : List Formula
 
 unfoldable pub noAction : Action
-noAction = record { pre = 0; add = 0; del = 0; cost = 0 }
+noAction = record { pre = 0; add = 0; del = 0; forbidden = 0; cost = 0 }
 
 -- action i of a job
 unfoldable pub actionOf : Job → ℕ → Action

@@ -1,4 +1,4 @@
--- `action_at` meets its contract: a walk of its MIR, by hand, after the toolchain's Denote/Examples/Slices/At.antt. The place of `actions[i]` is 32 bytes
+-- `action_at` meets its contract: a walk of its MIR, by hand, after the toolchain's Denote/Examples/Slices/At.antt. The place of `actions[i]` is 40 bytes
 -- past the pointer for each action before it; the slice is looked into, action i is taken out of the row, read, and put back.
 use mathlib.Core.Path.{_≡_, refl, sym}
 use Prim.Native.Nat.{ℕ, _*_, _<_, _^_}
@@ -48,7 +48,7 @@ use Rattle.task.proofs.action_at.Statement as stated
 use Rattle.task.proofs.action_at.Code as code
 
 abbrev none : Action
-none = record { pre = 0; add = 0; del = 0; cost = 0 }
+none = record { pre = 0; add = 0; del = 0; forbidden = 0; cost = 0 }
 
 -- what the contract says of the action that is read
 found : (ys : List Action) (i : ℕ) → actionIs (getD ys i none) ≡ getD (map actionIs ys) i noAction
@@ -56,7 +56,7 @@ unfolding noAction
 found ys i = sym (List·getD-map actionIs ys i none)
 
 -- the number of bytes before action i fits
-fits-before : {n : ℕ} (i : ℕ) → n * 32 < 2 ^ 63 → i < n → Fits w64 (i * 32)
+fits-before : {n : ℕ} (i : ℕ) → n * 40 < 2 ^ 63 → i < n → Fits w64 (i * 40)
 fits-before i h l = record { fits = omega arith }
 
 -- the struct's type, how its machine value is spelled, and that its relation tells that value
@@ -107,7 +107,7 @@ module _ {M : Type 1} (𝓤 : URA M) (H : Heap 𝓤) (A : Atoms 𝓤) (W : Given
         pass1 ! (init ! 8 refl (tt, (tt, (record { fits = gn .0 }, tt)))) $ pass1 ! (init ! 6 refl (tt, record { fits = gi })) $ pass0 ! $
         assigns ! (bin ! (load ! (from ! (stop !)) (look ! 6 refl)) (lit ! tt) (fits-before i (gn .1) l)) (from ! (stop !)) (init ! 4 refl (tt, fits-before i (gn .1) l)) $
         assigns ! (bin ! (load ! (from ! (fld ! refl (stop !))) (look-in ! 8 (sub ! 0 refl (whole !)))) (load ! (from ! (stop !)) (look ! 4 refl)) tt) (from ! (stop !)) (init ! 2 refl (tt, tt)) $
-        rewrite ! 2 (λ (p : ℕ). ‵ (fat fullShare tyPtr l₄ 0 (vptr b p))) (sym (place-is 32 o i)) refl $
+        rewrite ! 2 (λ (p : ℕ). ‵ (fat fullShare tyPtr l₄ 0 (vptr b p))) (sym (place-is 40 o i)) refl $
         move ! (13 ∷ []) $ fsplit ! $ fsplit ! $ move ! (1 ∷ []) $ fsplit ! $ move ! (16 ∷ []) $ split ! $ move ! (3 ∷ 0 ∷ []) $
         looks-slice ! tt R (Is R) (shows 𝓤 H A R) vals tells (LL.copy T.the-type T′.the-copy 𝓤 H A W) ys b o (λ q′.
         elem-out ! R (Is R) (shows 𝓤 H A R) vals tells q′ ys i none b o l (λ g.
