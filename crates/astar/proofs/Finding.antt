@@ -9,9 +9,9 @@ use Rattle.model.specs.exploration.Key.{Le, less}
 use Rattle.model.specs.exploration.System.{System}
 use Rattle.model.proofs.exploration.KeyLaws.{le-refl, le-trans, lt-le, less-yes, less-no}
 use Rattle.model.proofs.exploration.Laws.{Laws}
-use Rattle.dijkstra.specs.Records.{Held, Open, Table, rankIn, find, leastOpen}
-use Rattle.dijkstra.specs.Search.{someCutIn}
-use Rattle.dijkstra.proofs.Slots.{Holds}
+use Rattle.astar.specs.Records.{Held, Open, Table, rankIn, find, leastOpen}
+use Rattle.astar.specs.Search.{someCutIn}
+use Rattle.astar.proofs.Slots.{Holds}
 
 module _ (S : System) where
   -- ---- the slot of a node

@@ -18,14 +18,14 @@ use Rattle.model.proofs.exploration.Counting.{Apart}
 use Rattle.model.proofs.exploration.Uniqueness.{unique}
 use Rattle.model.proofs.exploration.Solves.{reached-solves}
 use Rattle.model.proofs.exploration.Answered.{weaken, answer-is, reached-at-least}
-use Rattle.dijkstra.specs.Records.{Held, Table, rankIn}
-use Rattle.dijkstra.specs.Search.{someCutIn, exhausted}
-use Rattle.dijkstra.proofs.Slots.{Holds, holds-one, all-held}
-use Rattle.dijkstra.proofs.Finding.{some-cut-in, none-cut-in}
-use Rattle.dijkstra.proofs.Invariant.{Sent, Inv, Barren, start-least, sent-rank}
-use Rattle.dijkstra.proofs.Sending.{Before, source-is}
-use Rattle.dijkstra.proofs.Following.{Crowded}
-use Rattle.dijkstra.proofs.Solution.{Up, up-solves}
+use Rattle.astar.specs.Records.{Held, Table, rankIn}
+use Rattle.astar.specs.Search.{someCutIn, exhausted}
+use Rattle.astar.proofs.Slots.{Holds, holds-one, all-held}
+use Rattle.astar.proofs.Finding.{some-cut-in, none-cut-in}
+use Rattle.astar.proofs.Invariant.{Sent, Inv, Barren, start-least, sent-rank}
+use Rattle.astar.proofs.Sending.{Before, source-is}
+use Rattle.astar.proofs.Following.{Crowded}
+use Rattle.astar.proofs.Solution.{Up, up-solves}
 
 -- ---- nothing is open
 

@@ -11,12 +11,12 @@ use Rattle.model.specs.exploration.Explore.{Entry}
 use Rattle.model.proofs.exploration.KeyLaws.{le-refl, lt-le, le-lt-trans, not-below, rank-step, unrank-lt, first-trans}
 use Rattle.model.proofs.exploration.Laws.{Laws}
 use Rattle.model.proofs.exploration.Gather.{At}
-use Rattle.dijkstra.specs.Records.{Held, Table, rankIn, pathOf}
+use Rattle.astar.specs.Records.{Held, Table, rankIn, pathOf}
 use Rattle.model.proofs.Tests.{and-both}
-use Rattle.dijkstra.proofs.Slots.{Holds, Put}
-use Rattle.dijkstra.proofs.Invariant.{entry, Linked, Gathers, Inv, Keeps, linked-steps, path-suc, entry-keeps, inv-more}
-use Rattle.dijkstra.proofs.Kept.{put-inv}
-use Rattle.dijkstra.proofs.Sending.{Before, Expanding, put-keeps, put-back, arrival, before-old, before-new, before-cases}
+use Rattle.astar.proofs.Slots.{Holds, Put}
+use Rattle.astar.proofs.Invariant.{entry, Linked, Gathers, Inv, Keeps, linked-steps, path-suc, entry-keeps, inv-more}
+use Rattle.astar.proofs.Kept.{put-inv}
+use Rattle.astar.proofs.Sending.{Before, Expanding, put-keeps, put-back, arrival, before-old, before-new, before-cases}
 
 module _ (S : System) (laws : Laws S) {m0 : S .Node} {t : Table S} {i : ℕ} {q : Held S} {c : ℕ} (x : Expanding S m0 t i q c) (b : c < S .actions)
     {n : S .Node} (leads : S .step (q .node) c ≡ some n) where

@@ -9,11 +9,11 @@ use Rattle.model.specs.exploration.Key.{Le}
 use Rattle.model.specs.exploration.System.{System}
 use Rattle.model.specs.exploration.Explore.{Entry}
 use Rattle.model.proofs.exploration.KeyLaws.{le-refl}
-use Rattle.dijkstra.specs.Records.{Held, Table, rankIn, take-it, mark, pathOf}
-use Rattle.dijkstra.proofs.Slots.{Holds, holds-one, holds-lt, Put, put-each, put-set}
-use Rattle.dijkstra.proofs.Invariant.{entry, Sent, Gathers, Begins, Inv, Keeps, path-keeps, low-at, inv-map}
-use Rattle.dijkstra.proofs.Kept.{put-inv}
-use Rattle.dijkstra.proofs.Sending.{Before, Expanding, put-keeps, sent-on, sent-back}
+use Rattle.astar.specs.Records.{Held, Table, rankIn, take-it, mark, pathOf}
+use Rattle.astar.proofs.Slots.{Holds, holds-one, holds-lt, Put, put-each, put-set}
+use Rattle.astar.proofs.Invariant.{entry, Sent, Gathers, Begins, Inv, Keeps, path-keeps, low-at, inv-map}
+use Rattle.astar.proofs.Kept.{put-inv}
+use Rattle.astar.proofs.Sending.{Before, Expanding, put-keeps, sent-on, sent-back}
 
 module _ (S : System) where
   pub mark-is : (t : Table S) (i : ℕ) {r : Held S} → Holds t i r → mark S t i ≡ set t i (take-it S r)

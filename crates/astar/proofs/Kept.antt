@@ -8,9 +8,9 @@ use Rattle.model.specs.exploration.Key.{Le}
 use Rattle.model.specs.exploration.System.{System}
 use Rattle.model.specs.exploration.Explore.{Entry}
 use Rattle.model.proofs.exploration.Gather.{At}
-use Rattle.dijkstra.specs.Records.{Held, Table, rankIn}
-use Rattle.dijkstra.proofs.Slots.{Holds, Put, put-each}
-use Rattle.dijkstra.proofs.Invariant.{entry, Linked, Sent, Gathers, Begins, Inv, Keeps, entry-keeps}
+use Rattle.astar.specs.Records.{Held, Table, rankIn}
+use Rattle.astar.proofs.Slots.{Holds, Put, put-each}
+use Rattle.astar.proofs.Invariant.{entry, Linked, Sent, Gathers, Begins, Inv, Keeps, entry-keeps}
 
 module _ (S : System) (m0 : S .Node) where
   -- v in slot j makes the table u out of t, and arrivals Q out of P.

@@ -14,14 +14,14 @@ use Rattle.model.specs.exploration.System.{System}
 use Rattle.model.specs.exploration.Explore.{Entry}
 use Rattle.model.proofs.exploration.KeyLaws.{le-antisym, lt-or-le, less-yes, less-no, same-key, same-key-refl}
 use Rattle.model.proofs.exploration.Laws.{Laws}
-use Rattle.dijkstra.specs.Records.{Held, Table, find, take-it}
-use Rattle.dijkstra.specs.Search.{Filled, goes-on, full, relaxed, arrive, follow, expand}
-use Rattle.dijkstra.proofs.Slots.{Holds}
-use Rattle.dijkstra.proofs.Finding.{find-none, find-some}
-use Rattle.dijkstra.proofs.Invariant.{Sent, inv-map}
-use Rattle.dijkstra.proofs.Sending.{Before, Expanding, source-is}
-use Rattle.dijkstra.proofs.Arriving.{closed-final}
-use Rattle.dijkstra.proofs.Following.{Followed, Went, new-went, less-went, larger-went, tied-went, newcomer}
+use Rattle.astar.specs.Records.{Held, Table, find, take-it}
+use Rattle.astar.specs.Search.{Filled, goes-on, full, relaxed, arrive, follow, expand}
+use Rattle.astar.proofs.Slots.{Holds}
+use Rattle.astar.proofs.Finding.{find-none, find-some}
+use Rattle.astar.proofs.Invariant.{Sent, inv-map}
+use Rattle.astar.proofs.Sending.{Before, Expanding, source-is}
+use Rattle.astar.proofs.Arriving.{closed-final}
+use Rattle.astar.proofs.Following.{Followed, Went, new-went, less-went, larger-went, tied-went, newcomer}
 
 module _ (S : System) (laws : Laws S) (slots : ℕ) where
   module _ {m0 : S .Node} {t : Table S} {i : ℕ} {q : Held S} {c : ℕ} (x : Expanding S m0 t i q c) (b : c < S .actions) where

@@ -15,15 +15,15 @@ use Rattle.model.specs.exploration.Equations.{no-plan, Starts}
 use Rattle.model.specs.exploration.Explore.{reached, answer, solve}
 use Rattle.model.proofs.exploration.Laws.{Laws, Finite}
 use Rattle.model.proofs.exploration.Fuel.{reached-none}
-use Rattle.dijkstra.specs.Records.{Held, Open, Table, leastOpen, mark}
-use Rattle.dijkstra.specs.Search.{Result, answered, too-small, Filled, goes-on, full, expand, firstGoal, turns, startTable, searchIn}
-use Rattle.dijkstra.proofs.Slots.{Holds}
-use Rattle.dijkstra.proofs.Invariant.{start-least}
-use Rattle.dijkstra.proofs.Finding.{least-none, least-some}
-use Rattle.dijkstra.proofs.Plans.{plan-right}
-use Rattle.dijkstra.proofs.Ends.{exhausted-right, start-reached, crowded}
-use Rattle.dijkstra.proofs.Taken.{takenIn, taken-le}
-use Rattle.dijkstra.proofs.Turning.{Ready, start-ready, past, turn-cut, Turned, turn-expanded}
+use Rattle.astar.specs.Records.{Held, Open, Table, leastOpen, mark}
+use Rattle.astar.specs.Search.{Result, answered, too-small, Filled, goes-on, full, expand, firstGoal, turns, startTable, searchIn}
+use Rattle.astar.proofs.Slots.{Holds}
+use Rattle.astar.proofs.Invariant.{start-least}
+use Rattle.astar.proofs.Finding.{least-none, least-some}
+use Rattle.astar.proofs.Plans.{plan-right}
+use Rattle.astar.proofs.Ends.{exhausted-right, start-reached, crowded}
+use Rattle.astar.proofs.Taken.{takenIn, taken-le}
+use Rattle.astar.proofs.Turning.{Ready, start-ready, past, turn-cut, Turned, turn-expanded}
 
 module _ (S : System) (slots : ℕ) where
   -- the defined answer, or "too small" where the nodes reached are more than the slots

@@ -10,9 +10,9 @@ use Rattle.model.specs.exploration.Key.{Le}
 use Rattle.model.specs.exploration.System.{System}
 use Rattle.model.specs.exploration.Explore.{Entry}
 use Rattle.model.proofs.exploration.Arrivals.{To}
-use Rattle.dijkstra.specs.Records.{Held, Table, rankIn}
-use Rattle.dijkstra.proofs.Slots.{Holds, holds-one, Put, put-each}
-use Rattle.dijkstra.proofs.Invariant.{entry, Sent, Inv, Keeps, entry-keeps}
+use Rattle.astar.specs.Records.{Held, Table, rankIn}
+use Rattle.astar.proofs.Slots.{Holds, holds-one, Put, put-each}
+use Rattle.astar.proofs.Invariant.{entry, Sent, Inv, Keeps, entry-keeps}
 
 module _ (S : System) where
   -- the arrivals made: from slot i by the actions below c, from the others by all

@@ -16,12 +16,12 @@ use Rattle.model.proofs.exploration.KeyLaws.{le-refl, le-trans, lt-le, extend-n
 use Rattle.model.proofs.exploration.Laws.{Laws, Finite}
 use Rattle.model.proofs.exploration.Paths.{path-end, path-steps, path-cast}
 use Rattle.model.proofs.exploration.Answered.{plan-is}
-use Rattle.dijkstra.specs.Records.{Held, Table, rankIn, pathOf}
-use Rattle.dijkstra.specs.Search.{firstGoal}
-use Rattle.dijkstra.proofs.Slots.{Holds, holds-one}
-use Rattle.dijkstra.proofs.Goals.{AtGoal, goal-some}
-use Rattle.dijkstra.proofs.Invariant.{Sent, Inv, Barren, linked-steps, path-suc, steps-linked, zero-slot, path-length, sized, linked-rank}
-use Rattle.dijkstra.proofs.Solution.{Up, as-sent, as-sent-key, was-made, start-node, up-solves}
+use Rattle.astar.specs.Records.{Held, Table, rankIn, pathOf}
+use Rattle.astar.specs.Search.{firstGoal}
+use Rattle.astar.proofs.Slots.{Holds, holds-one}
+use Rattle.astar.proofs.Goals.{AtGoal, goal-some}
+use Rattle.astar.proofs.Invariant.{Sent, Inv, Barren, linked-steps, path-suc, steps-linked, zero-slot, path-length, sized, linked-rank}
+use Rattle.astar.proofs.Solution.{Up, as-sent, as-sent-key, was-made, start-node, up-solves}
 
 module _ (S : System) (laws : Laws S) {m0 : S .Node} (starts : Starts S m0) {t : Table S} (inv : Inv S m0 t (Sent S t)) (k : Key)
     (past : (i : ℕ) (r : Held S) → Holds t i r → r .taken ≡ false → Le k (rankIn S r)) (begins : Le (rankOf S m0 zeroKey) k) where

@@ -7,9 +7,9 @@ use mathlib.Core.List.{List, [], _∷_, _++_}
 use lib.ListN.{length, length-append}
 use Rattle.model.specs.exploration.System.{System}
 use Rattle.model.specs.exploration.Explore.{Entry}
-use Rattle.dijkstra.specs.Records.{Held, Table, pathOf}
-use Rattle.dijkstra.proofs.Slots.{Holds, holds-one}
-use Rattle.dijkstra.proofs.Invariant.{Inv, linked-steps, path-suc, steps-linked, zero-slot}
+use Rattle.astar.specs.Records.{Held, Table, pathOf}
+use Rattle.astar.proofs.Slots.{Holds, holds-one}
+use Rattle.astar.proofs.Invariant.{Inv, linked-steps, path-suc, steps-linked, zero-slot}
 
 -- Sequences with one more action are equal where both parts are.
 snoc-parts : (p q : List ℕ) (a b : ℕ) → p ++ (a ∷ []) ≡ q ++ (b ∷ []) → (p ≡ q) × (a ≡ b)

@@ -7,21 +7,23 @@ use mathlib.Core.List.{[], _∷_}
 use lib.Dec.{eqb}
 use Rattle.model.specs.exploration.System.{System}
 use Rattle.model.specs.exploration.Equations.{plan}
+use Rattle.model.specs.exploration.Guided.{kept}
 use Rattle.model.specs.Cases.{P}
 use Rattle.model.specs.job.Layout.{jobOf}
 use Rattle.model.specs.search.JobSystem.{systemOf, startNode, nextNode, isGoal, startHints, carryHints}
+use Rattle.model.specs.search.Estimate.{estimateOf}
 use Rattle.model.specs.search.Node.{sameNode, meetAll, someDead}
 use Rattle.model.specs.job.Job.{actionOf}
-use Rattle.dijkstra.specs.Search.{answered, too-small, searchIn}
+use Rattle.astar.specs.Search.{answered, too-small, searchIn}
 
 -- ---- job P: five slots are enough, four are not
 
 five : searchIn (systemOf (jobOf P)) 5 ≡ answered (plan 16 (0 ∷ 1 ∷ 2 ∷ []))
-unfolding searchIn P jobOf sameNode startNode actionOf nextNode isGoal startHints carryHints meetAll someDead
+unfolding searchIn kept P jobOf sameNode startNode actionOf nextNode isGoal estimateOf startHints carryHints meetAll someDead
 five = refl
 
 four : searchIn (systemOf (jobOf P)) 4 ≡ too-small
-unfolding searchIn P jobOf sameNode startNode actionOf nextNode isGoal startHints carryHints meetAll someDead
+unfolding searchIn kept P jobOf sameNode startNode actionOf nextNode isGoal estimateOf startHints carryHints meetAll someDead
 four = refl
 
 -- ---- a rail: from position 10 to position 12, by an action that goes one up and costs 2, and one that goes one down and costs 1

@@ -14,9 +14,9 @@ use Rattle.model.proofs.exploration.KeyLaws.{le-refl, le-trans, lt-le, not-belo
 use Rattle.model.proofs.exploration.Laws.{Laws}
 use Rattle.model.proofs.exploration.Arrivals.{To}
 use Rattle.model.proofs.exploration.Gather.{At}
-use Rattle.dijkstra.specs.Records.{Held, Table, rankIn, pathOf}
-use Rattle.dijkstra.specs.Search.{pathBy}
-use Rattle.dijkstra.proofs.Slots.{Holds, holds-one}
+use Rattle.astar.specs.Records.{Held, Table, rankIn, pathOf}
+use Rattle.astar.specs.Search.{pathBy}
+use Rattle.astar.proofs.Slots.{Holds, holds-one}
 
 module _ (S : System) where
   -- a record as an entry: with its path in place of its parent

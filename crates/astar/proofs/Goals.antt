@@ -11,10 +11,10 @@ use borrow.Author.Tests.{not-true}
 use Rattle.model.specs.exploration.Key.{Key, sameKey, firstOf, First}
 use Rattle.model.specs.exploration.System.{System}
 use Rattle.model.proofs.exploration.KeyLaws.{same-key, same-key-refl, first-trans, firstOf-is, firstOf-first}
-use Rattle.dijkstra.specs.Records.{Held, Table, pathOf}
-use Rattle.dijkstra.specs.Search.{firstGoal}
+use Rattle.astar.specs.Records.{Held, Table, pathOf}
+use Rattle.astar.specs.Search.{firstGoal}
 use Rattle.model.proofs.Tests.{and-both}
-use Rattle.dijkstra.proofs.Slots.{Holds}
+use Rattle.astar.proofs.Slots.{Holds}
 
 module _ (S : System) (k : Key) where
   -- an uncut goal node of key k

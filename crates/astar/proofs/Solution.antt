@@ -13,9 +13,9 @@ use Rattle.model.proofs.exploration.KeyLaws.{le-trans, lt-le, le-lt-trans, not-
 use Rattle.model.proofs.exploration.Laws.{Laws}
 use Rattle.model.proofs.exploration.Uniqueness.{within-below, arrives-rank}
 use Rattle.model.proofs.exploration.Arrivals.{To}
-use Rattle.dijkstra.specs.Records.{Held, Table, rankIn}
-use Rattle.dijkstra.proofs.Slots.{Holds, holds-one}
-use Rattle.dijkstra.proofs.Invariant.{entry, Linked, Sent, Gathers, Inv, low-at, linked-rank, sent-rank}
+use Rattle.astar.specs.Records.{Held, Table, rankIn}
+use Rattle.astar.proofs.Slots.{Holds, holds-one}
+use Rattle.astar.proofs.Invariant.{entry, Linked, Sent, Gathers, Inv, low-at, linked-rank, sent-rank}
 
 -- A rank within the bound is below one that is not.
 within-or : (B : Bound) (j k : Key) → Within B j → Within B k ⊎ Lt j k

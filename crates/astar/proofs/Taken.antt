@@ -6,9 +6,9 @@ use mathlib.Core.Bool.{Bool, true, false, true≢false}
 use mathlib.Core.List.{[], _∷_}
 use lib.ListN.{length, set}
 use Rattle.model.specs.exploration.System.{System}
-use Rattle.dijkstra.specs.Records.{Held, Table, take-it}
-use Rattle.dijkstra.proofs.Slots.{Holds}
-use Rattle.dijkstra.proofs.Invariant.{Keeps}
+use Rattle.astar.specs.Records.{Held, Table, take-it}
+use Rattle.astar.proofs.Slots.{Holds}
+use Rattle.astar.proofs.Invariant.{Keeps}
 
 -- one more, if so
 abbrev with-one : Bool → ℕ → ℕ

@@ -9,17 +9,17 @@ use Rattle.model.specs.exploration.Key.{Key, zeroKey, Le}
 use Rattle.model.specs.exploration.System.{System}
 use Rattle.model.proofs.exploration.KeyLaws.{rank-zero}
 use Rattle.model.proofs.exploration.Laws.{Laws}
-use Rattle.dijkstra.specs.Records.{Held, Open, Table, rankIn, leastOpen, take-it, mark}
-use Rattle.dijkstra.specs.Search.{Filled, goes-on, full, expand, firstGoal, startTable}
-use Rattle.dijkstra.proofs.Slots.{Holds, holds-one, holds-lt, put-each, put-set}
-use Rattle.dijkstra.proofs.Finding.{least-some}
-use Rattle.dijkstra.proofs.Goals.{goal-none}
-use Rattle.dijkstra.proofs.Invariant.{Sent, Inv, Barren, sized}
-use Rattle.dijkstra.proofs.Sending.{Expanding}
-use Rattle.dijkstra.proofs.Following.{Crowded, Went}
-use Rattle.dijkstra.proofs.Expansion.{expand-went}
-use Rattle.dijkstra.proofs.Taking.{mark-is, take-cut, take-uncut, expanded}
-use Rattle.dijkstra.proofs.Taken.{takenIn, taken-keeps, taken-take}
+use Rattle.astar.specs.Records.{Held, Open, Table, rankIn, leastOpen, take-it, mark}
+use Rattle.astar.specs.Search.{Filled, goes-on, full, expand, firstGoal, startTable}
+use Rattle.astar.proofs.Slots.{Holds, holds-one, holds-lt, put-each, put-set}
+use Rattle.astar.proofs.Finding.{least-some}
+use Rattle.astar.proofs.Goals.{goal-none}
+use Rattle.astar.proofs.Invariant.{Sent, Inv, Barren, sized}
+use Rattle.astar.proofs.Sending.{Expanding}
+use Rattle.astar.proofs.Following.{Crowded, Went}
+use Rattle.astar.proofs.Expansion.{expand-went}
+use Rattle.astar.proofs.Taking.{mark-is, take-cut, take-uncut, expanded}
+use Rattle.astar.proofs.Taken.{takenIn, taken-keeps, taken-take}
 
 module _ (S : System) (slots : ℕ) where
   -- A table between two turns: all arrivals from taken slots were made, no goal was passed over, and it has not more than so many slots.

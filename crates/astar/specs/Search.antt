@@ -8,7 +8,7 @@ use lib.Dec.{ltb}
 use Rattle.model.specs.exploration.Key.{Key, zeroKey, extend, less, sameKey, earlier, firstOf}
 use Rattle.model.specs.exploration.System.{System}
 use Rattle.model.specs.exploration.Equations.{Answer, plan, no-plan}
-use Rattle.dijkstra.specs.Records.{Held, Table, find, leastOpen, mark, pathOf}
+use Rattle.astar.specs.Records.{Held, Table, find, leastOpen, mark, pathOf}
 
 -- what a search in a table comes to
 pub data Result : Type 0 where

@@ -12,12 +12,12 @@ use Rattle.model.specs.exploration.System.{System}
 use Rattle.model.specs.exploration.Explore.{Entry}
 use Rattle.model.proofs.exploration.KeyLaws.{le-refl, lt-le, extend-lt, first-total}
 use Rattle.model.proofs.exploration.Laws.{Laws}
-use Rattle.dijkstra.specs.Records.{Held, Table, pathOf}
-use Rattle.dijkstra.specs.Search.{Filled, goes-on, full, pathBy, tied}
-use Rattle.dijkstra.proofs.Slots.{Holds, holds-one, holds-lt, Put, put-set, put-append, set-held}
-use Rattle.dijkstra.proofs.Invariant.{entry, Linked, Inv, Keeps, linked-steps, path-suc, pathBy-suc, path-length, low-at}
-use Rattle.dijkstra.proofs.Sending.{Before, Expanding, put-keeps, put-back, arrival}
-use Rattle.dijkstra.proofs.Arriving.{larger-inv, Change, placed, placed-path, alone, together}
+use Rattle.astar.specs.Records.{Held, Table, pathOf}
+use Rattle.astar.specs.Search.{Filled, goes-on, full, pathBy, tied}
+use Rattle.astar.proofs.Slots.{Holds, holds-one, holds-lt, Put, put-set, put-append, set-held}
+use Rattle.astar.proofs.Invariant.{entry, Linked, Inv, Keeps, linked-steps, path-suc, pathBy-suc, path-length, low-at}
+use Rattle.astar.proofs.Sending.{Before, Expanding, put-keeps, put-back, arrival}
+use Rattle.astar.proofs.Arriving.{larger-inv, Change, placed, placed-path, alone, together}
 
 lt-le-trans : (i j k : Key) → Lt i j → Le j k → Lt i k
 lt-le-trans i j k p q = (omega arith, λ e. omega (arith, p .1 (omega arith), q .1 (omega arith)))
