@@ -59,6 +59,15 @@ static inline size_t write_job(const task *t, uint8_t *job) {
     return at;
 }
 
+/* One more fact and one more step: the fact is the goal, and the step adds it, needs all others, and forbids fact 0, which it needs. So the goal can be
+ * built, as the estimate has it, which overlooks what is forbidden, but never reached: a search visits all nodes. */
+static inline task out_of_reach(task t) {
+    uint64_t fact = 1ull << t.facts;
+    t.step[t.steps] = (step){fact - 1, fact, 0, 1, 1};
+    t.facts++, t.steps++, t.goal = fact, t.forbids = 1;
+    return t;
+}
+
 /* always (not SYMBOL, or eventually (one of the facts)), in exactly `length` bytes: the facts are named in turn, as often as there is room, and
  * where two bytes are left a double not stands before the last. So `length` is 8 or 10 more than a multiple of 3. The formula stays open
  * whatever happens. SYMBOL is a fact (code 3) or a step (code 4). */

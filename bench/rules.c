@@ -7,20 +7,19 @@
 static uint8_t job[8192], plan[1024], *table;
 
 /* So many cores. Each is sanded, mounted, lit and scanned, in this order, and labelled at any time: five facts and five steps, ten states. A
- * step may be repeated, which leads to the same node. The last fact is the goal, and no step adds it. */
+ * step may be repeated, which leads to the same node. */
 static task cores(unsigned n) {
-    task t = {.facts = 5 * n + 1, .steps = 5 * n, .goal = 1ull << 5 * n};
+    task t = {.facts = 5 * n, .steps = 5 * n};
     for (unsigned i = 0; i < 5 * n; i++) {
         unsigned stage = i % 5;
         t.step[i] = (step){stage == 0 || stage == 4 ? 0 : 1ull << (i - 1), 1ull << i, 0, 0, 1 + (7 * stage + 3 * (i / 5)) % 5};
     }
-    return t;
+    return out_of_reach(t);
 }
 
 /* The same, but a step is forbidden where its fact is true already, so that no step is repeated. */
 static task once(task t) {
-    t.forbids = 1;
-    for (unsigned i = 0; i < t.steps; i++) t.step[i].forbidden = t.step[i].added;
+    for (unsigned i = 0; i + 1 < t.steps; i++) t.step[i].forbidden = t.step[i].added;
     return t;
 }
 

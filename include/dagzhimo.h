@@ -12,7 +12,7 @@
  * - that what is written (table, plan, buffer, out) overlaps nothing else that is lent.
  *
  * Nothing is static, and nothing is allocated: threads may call at once, each with a table, buffers and out of its own. A call needs up to
- * DAGZHIMO_STACK bytes of stack; a thread with less may crash. (94,128 were measured with the longest job, whose formulas are nested as deep as can be.)
+ * DAGZHIMO_STACK bytes of stack; a thread with less may crash. (94,224 were measured with the longest job, whose formulas are nested as deep as can be.)
  */
 #ifndef DAGZHIMO_H
 #define DAGZHIMO_H
@@ -61,8 +61,10 @@ extern "C" {
  * out               a result: out[0] is the plan's cost, out[1] its number of steps. A refusal: out[0] is its place, out[1] is 0.
  * Gives 0 and the job's plan, or a refusal: 1 to 5 or 10 to 13.
  *
- * How large a table: as many slots as nodes are reached, which nobody knows before. Start with 1,000 slots, and on 10 double, up to
- * DAGZHIMO_MOST_SLOTS; 10 from that table means that the job is too large. The time grows with the square of the nodes (docs/PERFORMANCE.md).
+ * How large a table: as many slots as nodes are reached are enough, and often far fewer, since nodes are taken by cost plus an estimate of what is
+ * left to pay; nobody knows before. Start with 1,000 slots, and on 10 double, up to DAGZHIMO_MOST_SLOTS; 10 from that table means that the job is too
+ * large. The time grows with the square of the nodes (docs/PERFORMANCE.md). Nodes from which the goal facts cannot be built by steps, deleted and
+ * forbidden facts overlooked, are not reached: they take no slot, and a hint does not cut them. Where the start is such a node, 12 comes from any table.
  *
  * Hints: without them, 0 is the cheapest allowed plan, and 12 says that none is allowed. With them the search looks at less: the plan is allowed,
  * but may be dearer than the cheapest one, and 11 does not say that none is allowed. To be sure, drop the hints and ask again. */

@@ -15,6 +15,7 @@ ROOT = pathlib.Path(__file__).resolve().parent.parent
 sys.path.insert(0, str(ROOT / "tests" / "oracle"))
 
 import expect  # noqa: E402
+from estimate import Estimates  # noqa: E402
 from formulas import Refused  # noqa: E402
 from generate import formula  # noqa: E402
 from jobs import Job  # noqa: E402
@@ -124,7 +125,30 @@ CARD_1 = [
     (search(job(3, 4, 4, [])), "plan 0 0"),
 ]
 
-CASES = DOCUMENT_01 + CARD_1
+# an estimate of what is left; the hint 00 is dead at the start, and cuts the start pair if that is reached
+DEAD, KEEP = [[0x00]], [[0x22, 0x03, 0x00]]
+LOSE, RESTORE = step(0, 2, 1, 3), step(0, 1, 0, 2)
+
+CARD_2 = [
+    # a true fact costs 0, and a state without goal costs 0; but a goal that cannot be built leaves the start without an estimate
+    (search(job(1, 1, 1, [], hints=DEAD)), "refused 11 0"),
+    (search(job(1, 0, 0, [], hints=DEAD)), "refused 11 0"),
+    (search(job(1, 0, 1, [], hints=DEAD)), "refused 12 0"),
+    # fact 1, which is wanted, needs fact 0, and nothing adds that, or a step does that needs nothing
+    (search(job(2, 0, 2, [step(1, 2, 0, 1)], hints=DEAD)), "refused 12 0"),
+    (search(job(2, 0, 2, [step(1, 2, 0, 1), step(0, 1, 0, 1)], hints=DEAD)), "refused 11 0"),
+    # facts 0 and 1 are built from each other for nothing
+    (search(job(2, 0, 2, [step(1, 2, 0, 0), step(2, 1, 0, 0)], hints=DEAD)), "refused 12 0"),
+    # fact 0 is true, and the step that adds fact 1 forbids it
+    (search(job(2, 1, 2, [step(0, 2, 0, 1, 1)], hints=DEAD)), "refused 11 0"),
+    # fact 0 is true and wanted; step 0, which adds fact 1, deletes it; the hint that it stays true cuts the pair after that, if that pair is reached
+    (search(job(2, 1, 3, [LOSE], hints=KEEP)), "refused 12 0"),
+    (search(job(2, 1, 3, [LOSE, RESTORE], hints=KEEP)), "refused 11 0"),
+    # the dearest needed fact counts and not all: one step adds facts 1 and 2 for 2, which fact 3 needs, and another adds fact 3 at once for 4
+    (search(job(4, 0, 8, [step(0, 1, 0, 1), step(1, 6, 0, 2), step(6, 8, 0, 0), step(0, 8, 0, 4)])), "plan 3 3\n0\n1\n2"),
+]
+
+CASES = DOCUMENT_01 + CARD_1 + CARD_2
 
 
 def printed(case):
@@ -141,7 +165,7 @@ def printed(case):
     if kind == b"v":
         numbers = expect.read_through(refused, judged, body[:size])
         return refusal(numbers) or f"passed {numbers[1]} {numbers[2]}"
-    numbers, _, plan = expect.search(refused, judged and Answer(judged), bytes(65536), bytes(size))[0]
+    numbers, _, plan = expect.search(refused, judged and Answer(judged, Estimates(judged)), bytes(65536), bytes(size))[0]
     return refusal(numbers) or "\n".join([f"plan {numbers[2]} {numbers[1]}", *map(str, plan[:numbers[2]])])
 
 

@@ -2,18 +2,21 @@
 
     compare.py DRIVER [SEED [JOBS]]
 
-DRIVER is driver.c, compiled with the library. The seed is fixed unless one is given. It fails at the first difference and prints the job; and it
-fails if something that the jobs are to try happened too seldom."""
+DRIVER is driver.c, compiled with the library. The seed is fixed unless one is given. It fails at the first difference and prints the job, or where the
+oracle itself is not as card 2 says; and it fails if something that the jobs are to try happened too seldom."""
 
 import random
 import sys
 
+import estimated
 import events
 import expect
 import generate
 import richer
+import self_checks
 from driver import BadCall, Driver
 from enumeration import Enumeration
+from estimate import Estimates
 from formulas import MOST_BYTES, Refused, within
 from jobs import Job
 from pack import formula_bytes
@@ -21,18 +24,26 @@ from pairs import SLOT, Answer, TooMany, slots
 from tally import Tally
 from written import check_written
 
-MOST_PAIRS = 500    # jobs that reach more are left out, since the oracle is slow
+MOST_PAIRS = 500    # jobs that reach more, with estimates or without, are left out, since the oracle is slow
 
 # the planner uses its memo where the formulas' bytes, times the table's places or the list's steps, come to this number (docs/DECISIONS.md)
 MEMO = 4096
 
 # how often each kind of job is made, and by which change a job is made wrong
-KINDS = {generate.small_job: 25, richer.richer_job: 65, richer.wide_job: 3, richer.large_job: 5, richer.either_form_job: 2}
+KINDS = {generate.small_job: 16, richer.richer_job: 43, richer.wide_job: 3, richer.large_job: 5, richer.either_form_job: 2,
+         estimated.estimated_job: 29, estimated.chain_job: 2}
 WRONG = {generate.damaged: 15, generate.other_length: 4, generate.high_bits: 6}
 
 
 def pick(rng, weights):
     return rng.choices(list(weights), weights.values())[0]
+
+
+def answered(job):
+    """A job's answer, with document 01's own as `before`, which is the same one if no pair was left aside: both explorations are then the same."""
+    answer = Answer(job, Estimates(job), MOST_PAIRS)
+    answer.before = Answer(job, None, MOST_PAIRS) if answer.aside else answer
+    return answer
 
 
 class Comparison:
@@ -61,7 +72,7 @@ class Comparison:
                 data = pick(rng, WRONG)(rng, data)
             try:
                 job = Job(data)
-                return data, None, job, Answer(job, MOST_PAIRS)
+                return data, None, job, answered(job)
             except Refused as refused:
                 return data, refused, None, None
             except TooMany:
@@ -72,10 +83,14 @@ class Comparison:
         if refused:
             self.tally.count_true("jobs refused with", events.of_refused(data, refused))
         else:
+            wrong = self_checks.wrong(job, answer)
+            if wrong:
+                self.fail(f"the oracle on {data.hex()}: {wrong}")
             self.tally.count("jobs with the operator", *{f[0] for r in job.rules + job.hints for f in within(r.formula)})
             self.tally.count("jobs with", *answer.events)
             self.tally.count_true("jobs with", events.of_accepted(data, job, answer))
             self.tally.count_true("jobs with", events.of_forbidden(job, answer, MOST_PAIRS))
+            self.tally.count_true("jobs with", events.of_estimates(job, answer, MOST_PAIRS))
         lists = self.enumeration(data, job) if job else None
         for room in self.rooms(answer):
             self.search(data, refused, answer, lists, room)
@@ -112,6 +127,8 @@ class Comparison:
             "over 64 slots": numbers[0] != 10 and answer.needed > 64,
             "as many slots as pairs": slots(table) == answer.reached,
             "one slot fewer": slots(table) == answer.reached - 1,
+            "slots for the pairs with an estimate alone": answer.reached <= slots(table) < answer.before.reached,
+            "no slot and no pair": slots(table) == answer.reached == 0 < answer.before.reached,
             "a buffer as long as the plan": numbers[0] == 0 and len(plan) == len(answer.path),
             "one byte shorter": numbers[0] == 13 and len(plan) == len(answer.path) - 1,
         })
@@ -189,6 +206,9 @@ class Comparison:
 def main():
     seed = int(sys.argv[2]) if len(sys.argv) > 2 else 20261115
     jobs = int(sys.argv[3]) if len(sys.argv) > 3 else 4000
+    wrong = self_checks.wrong_example()
+    if wrong:
+        sys.exit(f"the oracle: {wrong}")
     comparison = Comparison(sys.argv[1], seed)
     for comparison.at in range(jobs):
         comparison.one_job()

@@ -1,6 +1,7 @@
 """What is to be seen in a random job, a refused or an accepted one, and in its read-throughs. The tally counts these events."""
 
 import pack
+from estimate import NONE, Estimates, fact_costs
 from formulas import MOST_BYTES, MOST_PARTS
 from pairs import Answer, TooMany
 
@@ -66,7 +67,8 @@ def of_forbidden(job, answer, most):
     if not any(s.forbidden for s in job.steps):
         return {}
     try:
-        other = Answer(job.forbidding_nothing(), most)
+        # the estimates overlook forbidden facts, so that they are the same
+        other = Answer(job.forbidding_nothing(), answer.estimates, most)
     except TooMany:
         return {"forbidden facts decide": True}
     planned = answer.number == other.number == 0
@@ -75,6 +77,66 @@ def of_forbidden(job, answer, most):
         "another plan by forbidden facts": planned and answer.path != other.path,
         "a dearer plan by forbidden facts": planned and answer.key[0] > other.key[0],
         "no plan by forbidden facts": other.number == 0 and answer.number != 0,
+    }
+
+
+def of_estimates(job, answer, most):
+    """Events that show that the estimates matter: how the answer differs from the one of document 01, and from those that a planner would give which took
+    other estimates."""
+    before, first = answer.before, answer.estimates.of(job.start)
+    without = {pair: a for pair, a in before.pairs.items() if answer.estimates.of(pair[0]) == NONE}
+    changed = (before.number, answer.number) == (11, 12)
+    return {
+        "no goal": not job.goal,
+        "an estimate over 65,535": 65535 < first < NONE,
+        "an estimate over 2,000,000": 2000000 < first < NONE,
+        "a pair without an estimate": without,
+        "a start without an estimate": without and first == NONE,
+        "a start with an estimate, a later pair without": without and first < NONE,
+        "a plan beside pairs without an estimate": without and answer.number == 0,
+        "11 that becomes 12": changed,
+        "11 that becomes 12, the start with an estimate": changed and first < NONE,
+        "11 that stays beside a cut pair without an estimate": answer.number == 11 and any(a.cut() for a in without.values()),
+        "no estimate because of a free cycle": any(free_cycle(job, facts) for facts in {pair[0] for pair in without}),
+        **of_overlooked(job, answer, most),
+    }
+
+
+def free_cycle(job, facts):
+    """Whether a state without an estimate had one if facts counted as built that steps of cost 0 would build from each other alone: the most facts
+    each of which such a step adds that needs only some of them and what can be built."""
+    if all(step.cost or not step.needed for step in job.steps):
+        return False
+    built = fact_costs(job.steps, facts).keys()
+    free, kept = None, {f for step in job.steps for f in step.added} - built
+    while kept != free:
+        free = kept
+        kept = {f for f in free if any(f in s.added and s.cost == 0 and s.needed <= free | built for s in job.steps)}
+    return job.goal <= fact_costs(job.steps, facts | free).keys()
+
+
+class Heeding(Estimates):
+    """The estimates of a planner that does not overlook forbidden facts: a step builds nothing where it forbids a true fact."""
+
+    def building(self, facts):
+        return [step for step in self.steps if not step.forbidden & facts]
+
+
+def of_overlooked(job, answer, most):
+    """Events that show that forbidden facts are overlooked, at the pairs of the plan, at those that are cut, or at the start."""
+    if not answer.reached or not any(step.forbidden for step in job.steps):
+        return {}
+    heeding, cut = Heeding(job), {pair[0] for pair, a in answer.pairs.items() if a.cut()}
+    if not any(heeding.of(facts) == NONE for facts in cut.union(facts for facts, _ in job.worlds(answer.path))):
+        return {}
+    try:
+        other = Answer(job, heeding, most).number
+    except TooMany:
+        other = None
+    return {
+        "an estimate by overlooking forbidden facts": True,
+        "a plan by overlooking forbidden facts": answer.number == 0 and other in (11, 12),
+        "11 by overlooking forbidden facts": answer.number == 11 and other == 12,
     }
 
 

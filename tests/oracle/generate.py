@@ -51,7 +51,7 @@ def sized(rng, atom, length, parts):
 
 def small_job(rng):
     """At most 3 facts and 4 steps of either form, and formulas of any shape, most of which settle at once."""
-    facts, steps = rng.randint(1, 3), rng.choice([0, 1, 2, 2, 3, 3, 4])
+    facts, steps = rng.randint(1, 3), rng.choice([0, 0, 1, 2, 2, 3, 3, 4])
     long = rng.random() < 0.1
     few = lambda: rng.choice([0, 0, 0, 1, 1, 2])
     subset = lambda p: sum(1 << i for i in range(facts) if rng.random() < p)

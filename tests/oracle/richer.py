@@ -105,15 +105,16 @@ def completed(rng, facts, start, steps, make, rules, hints):
 
 def obstructed(rng, data):
     """A job whose steps have the new form, with one more forbidden fact, so that its plan is allowed no longer: a fact that is true before a step of
-    the plan and that this step does not need. If one of three such facts leaves another plan, then it is that one."""
+    the plan and that this step does not need. If one of three such facts leaves another plan, then it is that one. (Plans are the same with estimates and
+    without.)"""
     job = Job(data)
-    plan = Answer(job).path
+    plan = Answer(job, None).path
     worlds, found = job.worlds(plan), data
     facts = [(step, fact) for i, step in enumerate(plan) for fact in sorted(worlds[i][0] - job.steps[step].needed)]
     for step, fact in rng.sample(facts, min(3, len(facts))):
         at = [offset for name, offset in pack.sets_of(data) if name == "forbidden"][step]
         found = data[:at] + pack.facts(pack.number(data, at, 8) | 1 << fact) + data[at + 8:]
-        if Answer(Job(found)).number == 0:
+        if Answer(Job(found), None).number == 0:
             break
     return found
 
@@ -123,8 +124,8 @@ def richer_job(rng):
     active, count = range(rng.choice([3, 4, 5, 5, 6, 6])), rng.choice([3, 4, 5, 6, 6, 7, 7])
     chained, new_form = rng.random() < 0.3, rng.random() < 0.5
     start = union(f for f in active if rng.random() < 0.1)
-    # steps that cost nothing make keys that differ in their number of steps alone
-    costs = rng.choice([[0, 1, 2, 3], [0, 1, 2, 3], [0, 0, 0, 1]])
+    # steps that cost nothing make keys that differ in their number of steps alone; without them lists of few steps decide, even with hints
+    costs = rng.choice([[0, 1, 2, 3], [1, 2, 3], [0, 1], [0, 1]])
     steps = [packed(*random_step(rng, active, i, chained, new_form), rng.choice(costs)) for i in range(count)]
     atom = atoms(rng, active, range(count))
     few = lambda: rng.choice([0, 0, 1, 1, 2, 3])

@@ -18,7 +18,13 @@ FLOORS = {
         # the two forms of a step; forbidden facts must decide in a tenth of the jobs
         "no steps": 12, "steps in the old form": 175, "steps in the new form": 175, "17 old steps or 13 new ones": 7, "an empty forbidden set": 165,
         "a fact needed and forbidden": 30, "forbidden facts decide": 100, "another plan by forbidden facts": 42,
-        "a dearer plan by forbidden facts": 12, "no plan by forbidden facts": 21},
+        "a dearer plan by forbidden facts": 12, "no plan by forbidden facts": 21,
+        # estimates; a pair without one must matter in a tenth of the jobs
+        "no goal": 50, "an estimate over 65,535": 8, "an estimate over 2,000,000": 5, "a pair without an estimate": 100,
+        "a start without an estimate": 38, "a start with an estimate, a later pair without": 36, "a plan beside pairs without an estimate": 18,
+        "11 that becomes 12": 25, "11 that becomes 12, the start with an estimate": 8, "11 that stays beside a cut pair without an estimate": 5,
+        "no estimate because of a free cycle": 9, "an estimate by overlooking forbidden facts": 35,
+        "a plan by overlooking forbidden facts": 5, "11 by overlooking forbidden facts": 12},
     # a high bit is bit V or one above it
     "jobs refused with": {
         "place over 255": 4, "task of another length": 20, "high bit in start": 8, "high bit in goal": 5, "high bit in needed": 5,
@@ -26,6 +32,7 @@ FLOORS = {
         "high bit in a later set, too": 7, "no high bit but V": 12},
     "calls with": {
         "10 where an answer exists": 160, "over 64 slots": 12, "as many slots as pairs": 150, "one slot fewer": 90,
+        "slots for the pairs with an estimate alone": 65, "no slot and no pair": 30,
         "a buffer as long as the plan": 120, "one byte shorter": 42, "search with a memo": 100, "read-through with a memo": 165,
         "over 128 bytes written": 10, "enumeration": 140, "enumeration and hints": 14, "enumeration of 4 steps or more": 5, "enumeration and 13": 25,
         "7 for a forbidden fact alone": 85},

@@ -24,8 +24,7 @@ use Rattle.model.proofs.exploration.Fuel.{reached-none, reached-inv}
 use Rattle.model.proofs.exploration.Solves.{reached-solves}
 use Rattle.model.proofs.exploration.Answered.{solve-answers, answer-is}
 use Rattle.model.proofs.job.Accepted.{ProperJob, accepted-proper, section-fine, each-formula}
-use Rattle.model.proofs.job.SystemLaws.{job-laws}
-use Rattle.model.proofs.job.FiniteNodes.{job-finite}
+use Rattle.model.proofs.job.GuidedJob.{job-laws, job-finite}
 use Rattle.demands.specs.Demand1.{Accepted}
 use Rattle.demands.specs.Demand2.{nodesOf, Different, ReadsRule, ReadsJob, Explored}
 use Rattle.demands.proofs.RuleReading.{reads-rule}

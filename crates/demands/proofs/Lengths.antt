@@ -19,8 +19,7 @@ use Rattle.model.proofs.exploration.Paths.{path-steps}
 use Rattle.model.proofs.exploration.Solves.{reached-solves}
 use Rattle.model.proofs.exploration.Answered.{solve-answers, reached-at-least}
 use Rattle.model.proofs.job.Accepted.{ProperJob}
-use Rattle.model.proofs.job.SystemLaws.{job-laws}
-use Rattle.model.proofs.job.FiniteNodes.{job-finite}
+use Rattle.model.proofs.job.GuidedJob.{job-laws, job-finite}
 use Rattle.demands.proofs.Results.{none-not-plan}
 
 module _ (S : System) (laws : Laws S) {L : Entries S} (x : Explores S unbounded L) where

@@ -1,4 +1,4 @@
--- The demands hold of what the contracts promise.
+-- The demands, and what the cards claim beside them, hold of what the contracts promise.
 pub mod Results
 pub mod Numbered
 pub mod Refusing
@@ -10,3 +10,4 @@ pub mod Exploring
 pub mod Lengths
 pub mod Uncut
 pub mod Answering
+pub mod Estimating

@@ -16,9 +16,7 @@ use Rattle.model.proofs.exploration.Runs.{Run, stop, on}
 use Rattle.model.proofs.exploration.Solves.{reached-solves}
 use Rattle.model.proofs.exploration.Answered.{solve-answers}
 use Rattle.model.proofs.job.Accepted.{ProperJob}
-use Rattle.model.proofs.job.SystemLaws.{job-laws}
-use Rattle.model.proofs.job.FiniteNodes.{job-finite}
-use Rattle.model.proofs.job.PlansAsRuns.{allowed-run}
+use Rattle.model.proofs.job.GuidedJob.{job-laws, job-finite, allowed-run}
 use Rattle.demands.proofs.Results.{plan-not-none}
 
 module _ (S : System) {L : Entries S} (x : Explores S unbounded L) (whole : SomeCut S L → ⊥) where

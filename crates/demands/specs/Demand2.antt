@@ -114,7 +114,7 @@ abbrev pub Different : List Node → Type 0
 Different [] = Unit {0}
 Different (n ∷ ns) = (List·Memᴰ n ns → ⊥) × Different ns
 
--- "Hints cut as document 01 says": its nodes are those of "Pairs and hints", and so is its answer.
+-- "Hints cut as document 01 says": its nodes are those of "Pairs and hints" that have an estimate (card 2), and so is its answer.
 pub record Explored (job : List ℕ) : Type 1 where
   -- The nodes reached, with keys and hint remainders, solve the equations of "Pairs and hints".
   pub solves : Explores (systemOf (jobOf job)) unbounded (Of (systemOf (jobOf job)) (reached (systemOf (jobOf job))))

@@ -10,10 +10,10 @@ use lib.ListN.{length}
 use Rattle.model.specs.exploration.Key.{Key, extend, earlier}
 use Rattle.model.specs.search.Query.{Query}
 use Rattle.model.specs.calls.Search.{slotBytes}
-use Rattle.dijkstra.specs.Records.{Held}
-use Rattle.dijkstra.specs.Search.{pathBy}
-use Rattle.dijkstra.proofs.Slots.{Holds}
-use Rattle.dijkstra.proofs.Invariant.{Linked, linked-steps, steps-linked}
+use Rattle.astar.specs.Records.{Held}
+use Rattle.astar.specs.Search.{pathBy}
+use Rattle.astar.proofs.Slots.{Holds}
+use Rattle.astar.proofs.Invariant.{Linked, linked-steps, steps-linked}
 use Rattle.table.specs.declared.Slot.{Slot}
 use Rattle.table.specs.Slots.{slotAt}
 use Rattle.paths.specs.Chain.{held, stepsAt, orderBy, Chained}
@@ -39,7 +39,7 @@ module _ {job : Query} {places n : ℕ} {t : List ℕ} {i : ℕ} {from : Slot} {
   sound-slot j l = sound-at job n t (x .running .sound) j l room
 
   -- Slot i holds the record of `from`, so it has the same key.
-  source : heldIs job from ≡ heldIs job (slotAt t i)
+  pub source : heldIs job from ≡ heldIs job (slotAt t i)
   source = held-is job n t i (x .expanding .held) .1
 
   source-steps : from .steps ≡ slotAt t i .steps

@@ -11,9 +11,9 @@ use lib.ListN.{length, set}
 use borrow.Author.Tests.{lt-ltb, le-ltb}
 use Rattle.model.specs.exploration.Key.{Key, extend, less, sameKey, earlier}
 use Rattle.model.specs.exploration.System.{System}
-use Rattle.dijkstra.specs.Records.{Held, Table, find}
-use Rattle.dijkstra.specs.Search.{goes-on, full, pathBy, tied, relaxed, arrive, follow, expand}
-use Rattle.dijkstra.proofs.Slots.{Holds, set-held}
+use Rattle.astar.specs.Records.{Held, Table, find}
+use Rattle.astar.specs.Search.{goes-on, full, pathBy, tied, relaxed, arrive, follow, expand}
+use Rattle.astar.proofs.Slots.{Holds, set-held}
 
 module _ (S : System) where
   -- ---- an arrival at a node that is held

@@ -6,7 +6,7 @@ use native.Mathlib.Omega.{arith}
 use lib.ListN.{length}
 use Rattle.model.specs.search.Node.{Node}
 use Rattle.model.specs.search.Query.{Query}
-use Rattle.dijkstra.specs.Search.{Filled, goes-on, full}
+use Rattle.astar.specs.Search.{Filled, goes-on, full}
 use Rattle.held.specs.Held.{sys, heldIn}
 use Rattle.held.specs.Running.{Running}
 use Rattle.expansion.specs.declared.Grown.{Grown}

@@ -4,6 +4,7 @@ pub mod Making
 pub mod Arrival
 pub mod Merging
 pub mod Relaxing
+pub mod Estimating
 pub mod Growing
 pub mod GrowthLaws
 pub mod Choosing

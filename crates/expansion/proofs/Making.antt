@@ -5,9 +5,7 @@ use mathlib.Core.List.{List}
 use Prim.Native.Nat.{ℕ, suc, _+_, _≤_, _<_}
 use native.Mathlib.Omega.{arith}
 use Rattle.model.specs.exploration.Key.{Key, extend}
-use Rattle.model.specs.declared.Verdict.the-variants.{Fine}
 use Rattle.model.specs.job.Layout.{constraintCount, hintCount}
-use Rattle.model.specs.job.Decoding.{jobVerdict}
 use Rattle.model.specs.search.Node.{meetAll}
 use Rattle.model.specs.search.JobSystem.{isGoal}
 use Rattle.model.specs.search.Query.{Query, jobFor}
@@ -16,8 +14,7 @@ use Rattle.task.specs.Meaning.{keyIs}
 use Rattle.table.specs.declared.Slot.{Slot}
 use Rattle.nodes.specs.Meaning.{Clean, hintsIs, CleanHints, Costs, Carries}
 use Rattle.nodes.proofs.Hints.{hints-met, clean-met}
-use Rattle.held.specs.Held.{sys, nodeFor, heldIs}
-use Rattle.held.proofs.JobLaws.{estimate-narrow}
+use Rattle.held.specs.Held.{nodeFor, heldIs, HasEstimate}
 use Rattle.expansion.specs.Arrivals.{openSlot, keyBy, Extends, Reaches, Makes}
 
 -- The conjunction of a slot's hint residuals and an arrival's.
@@ -39,20 +36,19 @@ module _ (job : Query) where
       record { is = e ∙ ap (extend (record { cost = from .cost; steps = from .steps })) (k .costs); summed = omega arith; short = omega arith }
 
   -- A slot of right parts.
-  pub opened-makes : jobVerdict (job .bytes) ≡ Fine
-      → (node hints : List ℕ) (key : code.Key) (estimate parent action : ℕ) (goal : Bool) {k : Key} {h : List ℕ} {s : Slot}
-      → s ≡ openSlot node hints key estimate parent action goal → Reaches k key → Carries (hintCount (job .bytes)) h hints → Clean
-      (constraintCount (job .bytes)) node
-      → goal ≡ isGoal (jobFor job) (nodeFor job node) → estimate ≡ sys job .estimate (nodeFor job node) → parent < 65536 → action < 256
+  pub opened-makes : (node hints : List ℕ) (key : code.Key) (estimate parent action : ℕ) (goal : Bool) {k : Key} {h : List ℕ} {s : Slot}
+      → s ≡ openSlot node hints key estimate parent action goal → Reaches k key → Carries (hintCount (job .bytes)) h hints
+      → Clean (constraintCount (job .bytes)) node
+      → goal ≡ isGoal (jobFor job) (nodeFor job node) → HasEstimate job node estimate → parent < 65536 → action < 256
       → Makes job (record { node = nodeFor job node; key = k; hints = h; parent = parent; action = action; taken = false }) s
   unfolding heldIs
-  opened-makes fine node hints key estimate parent action goal e r c n g left p a = rw e (record {
+  opened-makes node hints key estimate parent action goal e r c n g left p a = rw e (record {
     stands = λ d. record { node = nodeFor job node; key = r .is d; hints = c .carries d; parent = parent; action = action; taken = false };
     sound = record { clean = n; cleanHints = c .clean; marked = g; estimated = left; summed = r .summed };
     narrow = record {
       cost = omega arith;
       steps = r .short;
-      estimate = omega (arith, left, estimate-narrow job fine (nodeFor job node));
+      estimate = left .fits;
       parent = p;
       action = a;
     };

@@ -7,14 +7,13 @@ use native.Mathlib.Omega.{arith}
 use Rattle.model.specs.job.Layout.{hintCount}
 use Rattle.model.specs.search.Node.{meetAll}
 use Rattle.model.specs.search.Query.{Query}
-use Rattle.task.specs.declared.Key as code
 use Rattle.table.specs.declared.Slot.{Slot}
 use Rattle.table.specs.Slots.{Narrow}
 use Rattle.table.proofs.SlotLaws.{slot-narrow}
 use Rattle.nodes.specs.Meaning.{Carries}
 use Rattle.paths.specs.Chain.{held, orderBy}
-use Rattle.dijkstra.specs.Records.{Held}
-use Rattle.dijkstra.specs.Search.{tied}
+use Rattle.astar.specs.Records.{Held}
+use Rattle.astar.specs.Search.{tied}
 use Rattle.held.specs.Held.{sys, heldIs, heldIn, Sound}
 use Rattle.held.proofs.JobLaws.{few-actions, few-hints}
 use Rattle.expansion.specs.Arrivals.{openSlot, Arriving, Ties, Reaches, Makes}
@@ -46,7 +45,7 @@ module _ {job : Query} {places n : ℕ} {t : List ℕ} {i : ℕ} {from : Slot} {
     makes-merged : (p b : ℕ) {s : Slot} → s ≡ stored hints p b → p < 65536 → b < 256 → Makes job (merged p b) s
     unfolding heldIs
     makes-merged p b e l m =
-        opened-makes job (x .running .accepted) (old .node) hints _ (old .estimate) p b (old .goal) e key-kept
+        opened-makes job (old .node) hints _ (old .estimate) p b (old .goal) e key-kept
         (met-carries (hintCount (job .bytes)) (old .hints) g met (old-sound .cleanHints) carried (few-hints job (x .running .accepted))) (old-sound .clean)
         (old-sound .marked) (old-sound .estimated) l m
 

@@ -9,9 +9,9 @@ use Rattle.model.specs.search.Query.{Query}
 use Rattle.model.proofs.exploration.KeyLaws.{same-key}
 use Rattle.task.specs.declared.Key as code
 use Rattle.task.specs.Meaning.{keyIs}
-use Rattle.dijkstra.specs.Records.{Held}
-use Rattle.dijkstra.specs.Search.{tied, relaxed}
-use Rattle.dijkstra.proofs.Slots.{set-held}
+use Rattle.astar.specs.Records.{Held}
+use Rattle.astar.specs.Search.{tied, relaxed}
+use Rattle.astar.proofs.Slots.{set-held}
 use Rattle.table.specs.declared.Slot.{Slot}
 use Rattle.table.specs.Slots.{slots, slotAt}
 use Rattle.held.specs.Held.{sys, heldIs, heldIn}

@@ -14,12 +14,12 @@ use Rattle.model.specs.task.State.{applicable}
 use Rattle.model.specs.search.Query.{Query, jobFor}
 use Rattle.table.specs.declared.Slot.{Slot}
 use Rattle.table.specs.Slots.{slotAt}
-use Rattle.dijkstra.specs.Records as search
-use Rattle.dijkstra.specs.Records.{take-it}
-use Rattle.dijkstra.specs.Search.{Filled, goes-on, follow, expand}
-use Rattle.dijkstra.proofs.Sending.{Expanding}
-use Rattle.dijkstra.proofs.Following.{Went}
-use Rattle.dijkstra.proofs.Expansion.{follow-taken}
+use Rattle.astar.specs.Records as search
+use Rattle.astar.specs.Records.{take-it}
+use Rattle.astar.specs.Search.{Filled, goes-on, follow, expand}
+use Rattle.astar.proofs.Sending.{Expanding}
+use Rattle.astar.proofs.Following.{Went}
+use Rattle.astar.proofs.Expansion.{follow-taken}
 use Rattle.held.specs.Held.{sys, nodeFor, heldIs, heldIn}
 use Rattle.held.specs.Running.{Running, Busy}
 use Rattle.held.proofs.JobLaws.{sys-laws, sys-actions}

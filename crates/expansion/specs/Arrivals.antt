@@ -1,25 +1,26 @@
 -- One arrival: what is known before an action is followed, and what the slots that it makes stand for.
 use mathlib.Core.Path.{_≡_}
 use mathlib.Core.Bool.{Bool, false}
+use mathlib.Core.Option.{some}
 use mathlib.Core.List.{List}
 use Prim.Native.Nat.{ℕ, _+_, _*_, _≤_, _<_}
 use lib.ListN.{set}
 use Rattle.model.specs.declared.Verdict.the-variants.{Fine}
 use Rattle.model.specs.exploration.Key.{Key, extend}
 use Rattle.model.specs.job.Job.{actionOf}
-use Rattle.model.specs.job.Layout.{actionCount, hintCount}
+use Rattle.model.specs.job.Layout.{actionCount, constraintCount, hintCount}
 use Rattle.model.specs.job.Decoding.{jobVerdict}
 use Rattle.model.specs.search.Node.{Node}
-use Rattle.model.specs.search.JobSystem.{carryHints}
+use Rattle.model.specs.search.JobSystem.{nextNode, carryHints}
 use Rattle.model.specs.search.Query.{Query, jobFor}
 use Rattle.task.specs.declared.Key as code
 use Rattle.task.specs.Meaning.{keyIs}
 use Rattle.table.specs.declared.Slot.{Slot}
 use Rattle.table.specs.Slots.{slotAt, Narrow}
-use Rattle.nodes.specs.Meaning.{hintsIs}
-use Rattle.dijkstra.specs.Records.{Held}
-use Rattle.dijkstra.specs.Search.{tied, relaxed}
-use Rattle.dijkstra.proofs.Sending.{Expanding}
+use Rattle.nodes.specs.Meaning.{Clean, hintsIs}
+use Rattle.astar.specs.Records.{Held}
+use Rattle.astar.specs.Search.{tied, relaxed}
+use Rattle.astar.proofs.Sending.{Expanding}
 use Rattle.held.specs.Held.{sys, nodeFor, heldIs, heldIn, Sound, SoundTo}
 use Rattle.held.specs.Running.{Running}
 
@@ -78,6 +79,11 @@ module _ (job : Query) where
   -- the record that it makes together with an old one of its node and key, in a table of n slots
   abbrev pub joined : ℕ → List ℕ → ℕ → Slot → ℕ → List ℕ → Slot → Held (sys job)
   joined n table i from a node old = tied (sys job) (heldIn job n table) (heldIs job old) (hintsBy from a node) i a
+
+  -- Action a leads from the node of a slot to that of an array.
+  pub record LeadsTo (from : Slot) (a : ℕ) (node : List ℕ) : Type 0 where
+    pub leads : nextNode (jobFor job) (nodeFor job (from .node)) a ≡ some (nodeFor job node)
+    pub clean : Clean (constraintCount (job .bytes)) node
 
   -- The record of slot i, which is that of `from`, is being expanded: the actions below a were followed, and a is next.
   pub record Arriving (places n : ℕ) (table : List ℕ) (i : ℕ) (from : Slot) (a : ℕ) : Type 0 where

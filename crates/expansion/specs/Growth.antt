@@ -3,13 +3,12 @@ use mathlib.Core.Path.{_≡_}
 use mathlib.Core.List.{List}
 use Prim.Native.Nat.{ℕ, _≤_}
 use Rattle.model.specs.search.Query.{Query}
-use Rattle.dijkstra.specs.Search.{Filled, goes-on, full, arrive, follow, expand}
+use Rattle.astar.specs.Search.{Filled, goes-on, full, follow, expand}
 use Rattle.table.specs.declared.Slot.{Slot}
 use Rattle.table.specs.Slots.{slotAt}
-use Rattle.held.specs.Held.{sys, nodeFor, heldIs, heldIn, SoundTo}
+use Rattle.held.specs.Held.{sys, heldIs, heldIn, SoundTo}
 use Rattle.expansion.specs.declared.Grown.{Grown}
 use Rattle.expansion.specs.declared.Grown.the-variants.{Held, Full}
-use Rattle.expansion.specs.Arrivals.{keyBy, hintsBy}
 
 -- the table that goes on, or that it is full
 unfoldable pub grownIs : (job : Query) → Grown → List ℕ → Filled (sys job)
@@ -19,10 +18,6 @@ grownIs job Full table = full
 
 -- what the search makes of the first n slots by arrivals from slot i
 module _ (job : Query) (places n : ℕ) (table : List ℕ) (i : ℕ) where
-  -- by one arrival at a node, by action a from the record of a slot
-  abbrev pub arrived : Slot → ℕ → List ℕ → Filled (sys job)
-  arrived from a node = arrive (sys job) places (heldIn job n table) (nodeFor job node) (keyBy job from a) (hintsBy job from a node) i a
-
   -- by one action from the record of a slot
   abbrev pub followed : Slot → ℕ → Filled (sys job)
   followed from a = follow (sys job) places (heldIn job n table) (heldIs job from) i a

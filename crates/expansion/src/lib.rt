@@ -1,6 +1,7 @@
 // All arrivals from one slot of the table: each action is followed in order, and what it leads to is held.
 mod made; // made.rt: the slots that arrivals make
 
+use estimate::Estimated;
 use job::access;
 use model::NODE;
 use table::Found;
@@ -10,15 +11,14 @@ use table::slots;
 use task::Key;
 ghost use mathlib.Core.Path.{_≡_};
 ghost use Prim.Native.Nat.{_<_};
-ghost use Rattle.model.specs.job.Layout.{constraintCount};
 ghost use Rattle.model.specs.search.Node.{sameNumbers};
 ghost use Rattle.model.specs.search.Query.{query, jobFor};
 ghost use Rattle.progression.specs.Workspace.{Workspace};
-ghost use Rattle.nodes.specs.Meaning.{Applies, Clean};
+ghost use Rattle.nodes.specs.Meaning.{Applies};
 ghost use Rattle.held.specs.Held.{nodeFor};
 ghost use Rattle.held.specs.Running.{Busy};
-ghost use Rattle.expansion.specs.Arrivals.{Arriving, Arrives, Relaxes};
-ghost use Rattle.expansion.specs.Growth.{arrived, followed, expanded, Grew};
+ghost use Rattle.expansion.specs.Arrivals.{Arriving, LeadsTo, Arrives, Relaxes};
+ghost use Rattle.expansion.specs.Growth.{followed, expanded, Grew};
 
 // How many slots are in use, or that one more was wanted than there are.
 pub enum Grown {
@@ -62,7 +62,7 @@ fn relax(
     }
 }
 
-// An arrival at a node, which is looked up.
+// An arrival at the node that action a leads to, which is looked up. A new node that has no estimate is not reached.
 fn arrive(
     job: &[u8],
     work: &mut [u64],
@@ -74,8 +74,8 @@ fn arrive(
     a: u8,
     node: [u64; NODE],
 ) -> Grown
-    requires { ⌜ Arriving (query (now job)) places n (now t) i from a × Clean (constraintCount (now job)) node × Workspace (now job) (now work) ⌝ }
-    ensures { λ r. ⌜ Grew (query (now (job .entry))) places (arrived (query (now (job .entry))) places n (now (t .entry)) i from a node) r (now (t .exit))
+    requires { ⌜ Arriving (query (now job)) places n (now t) i from a × LeadsTo (query (now job)) from a node × Workspace (now job) (now work) ⌝ }
+    ensures { λ r. ⌜ Grew (query (now (job .entry))) places (followed (query (now (job .entry))) places n (now (t .entry)) i from a) r (now (t .exit))
         × Workspace (now (job .entry)) (now (work .exit)) ⌝ }
 {
     match lookup::find(t, n, node) {
@@ -84,8 +84,11 @@ fn arrive(
             Grown::Held(n)
         }
         Found::Nothing => {
+            let Estimated::Cost(left) = nodes::estimate_of(job, node) else {
+                return Grown::Held(n);
+            };
             if n < places {
-                let s = made::fresh(job, work, i, from, a, node);
+                let s = made::fresh(job, work, i, from, a, node, left);
                 slots::store(t, n, s);
                 Grown::Held(n + 1)
             } else {

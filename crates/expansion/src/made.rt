@@ -8,7 +8,7 @@ ghost use Rattle.model.specs.job.Layout.{constraintCount, hintCount};
 ghost use Rattle.model.specs.search.Query.{query};
 ghost use Rattle.progression.specs.Workspace.{Workspace};
 ghost use Rattle.nodes.specs.Meaning.{Clean, Carries};
-ghost use Rattle.held.specs.Held.{Sound};
+ghost use Rattle.held.specs.Held.{HasEstimate, Sound};
 ghost use Rattle.expansion.specs.Arrivals.{openSlot, Extends, Reaches, Makes, keyBy, hintsBy, newcomer, joined, Arrives, Ties};
 
 // The key of an arrival: the sum fits, since costs are sums of as many 16-bit numbers as there are steps.
@@ -58,16 +58,25 @@ fn opened(
     }
 }
 
-// The slot of a new node; for now every estimate is 0.
-pub fn fresh(job: &[u8], work: &mut [u64], i: usize, from: Slot, a: u8, node: [u64; NODE]) -> Slot
-    requires { ⌜ Extends (query (now job)) from a × (i < 65536) × Clean (constraintCount (now job)) node × Workspace (now job) (now work) ⌝ }
+// The slot of a new node, which has an estimate.
+pub fn fresh(
+    job: &[u8],
+    work: &mut [u64],
+    i: usize,
+    from: Slot,
+    a: u8,
+    node: [u64; NODE],
+    estimate: u64,
+) -> Slot
+    requires { ⌜ Extends (query (now job)) from a × (i < 65536) × Clean (constraintCount (now job)) node × HasEstimate (query (now job)) node estimate
+        × Workspace (now job) (now work) ⌝ }
     ensures { λ r. ⌜ Makes (query (now (job .entry))) (newcomer (query (now (job .entry))) i from a node node) r
         × Workspace (now (job .entry)) (now (work .exit)) ⌝ }
 {
     let key = key_of(job, from, a);
     let hints = hints_of(job, work, from, a, node);
     let goal = nodes::is_goal(job, work, node);
-    opened(node, hints, key, 0, i as u64, a as u64, goal)
+    opened(node, hints, key, estimate, i as u64, a as u64, goal)
 }
 
 // The slot of a node that is reached by a lesser key: the node is the old one, so it is a goal if that was, and has its estimate.

@@ -9,10 +9,10 @@ use Rattle.model.specs.exploration.Explore.{Entry}
 use Rattle.model.specs.search.Node.{Node}
 use Rattle.model.specs.search.Query.{Query}
 use Rattle.model.specs.calls.Search.{slotBytes}
-use Rattle.dijkstra.specs.Records.{Held, Table, pathOf}
-use Rattle.dijkstra.specs.Search.{pathBy}
-use Rattle.dijkstra.proofs.Invariant.{Linked, Inv, linked-steps, path-suc, pathBy-suc, steps-linked}
-use Rattle.dijkstra.proofs.Chains.{path-slot}
+use Rattle.astar.specs.Records.{Held, Table, pathOf}
+use Rattle.astar.specs.Search.{pathBy}
+use Rattle.astar.proofs.Invariant.{Linked, Inv, linked-steps, path-suc, pathBy-suc, steps-linked}
+use Rattle.astar.proofs.Chains.{path-slot}
 use Rattle.table.specs.declared.Slot.{Slot}
 use Rattle.table.specs.Slots.{slots, slotAt, noSlot}
 use Rattle.table.proofs.LookupLaws.{length-first, first-at}

@@ -8,8 +8,8 @@ use lib.ListN.{length, getD, getElem?, take, length-map, length-take}
 use Rattle.model.specs.search.Query.{Query}
 use Rattle.model.specs.calls.Search.{slotBytes}
 use Rattle.model.proofs.job.VerdictLaws.{all-getD}
-use Rattle.dijkstra.specs.Records.{Held}
-use Rattle.dijkstra.proofs.Slots.{Holds, holds-one, holds-lt}
+use Rattle.astar.specs.Records.{Held}
+use Rattle.astar.proofs.Slots.{Holds, holds-one, holds-lt}
 use Rattle.table.specs.declared.Slot.{Slot}
 use Rattle.table.specs.Slots.{slots, slotAt, noSlot}
 use Rattle.table.proofs.LookupLaws.{length-first, first-at}

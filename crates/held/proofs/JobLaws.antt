@@ -1,18 +1,23 @@
--- The system of a job that is asked for: it meets the laws of exploration, and its counts are those of the bytes.
-use mathlib.Core.Path.{_≡_}
-use Prim.Native.Nat.{_≤_, _<_}
+-- The system of a job that is asked for: it meets the laws of exploration, its counts are those of the bytes, and only nodes with an estimate are
+-- reached.
+use mathlib.Core.Path.{_≡_, ap, _∙_}
+use mathlib.Core.Option.{Option, none, some}
+use mathlib.Core.List.{List}
+use Prim.Native.Nat.{ℕ, _≤_}
 use native.Mathlib.Omega.{arith}
 use Rattle.model.specs.declared.Verdict.the-variants.{Fine}
 use Rattle.model.specs.job.Layout.{actionCount, constraintCount, hintCount}
 use Rattle.model.specs.job.Decoding.{jobVerdict}
+use Rattle.model.specs.exploration.Guided.{kept, has}
 use Rattle.model.specs.search.Node.{Node}
+use Rattle.model.specs.search.JobSystem.{nodeEstimate}
 use Rattle.model.specs.search.Query.{Query, jobFor}
 use Rattle.model.proofs.exploration.Laws.{Laws, Finite}
+use Rattle.model.proofs.exploration.Guiding.{kept-some, kept-none, kept-out}
 use Rattle.model.proofs.job.Accepted.{accepted-proper}
-use Rattle.model.proofs.job.SystemLaws.{job-laws}
-use Rattle.model.proofs.job.FiniteNodes.{job-finite}
-use Rattle.nodes.proofs.Fields.{length-actions, length-constraints, length-hints}
-use Rattle.held.specs.Held.{sys}
+use Rattle.model.proofs.job.GuidedJob.{job-laws, job-finite}
+use Rattle.job.proofs.Accepted.{length-actions, length-constraints, length-hints}
+use Rattle.held.specs.Held.{sys, nodeFor, HasEstimate}
 
 module _ (job : Query) where
   -- It meets the laws of exploration.
@@ -28,10 +33,6 @@ module _ (job : Query) where
     pub sys-finite : Finite (sys job)
     sys-finite = job-finite (jobFor job) (accepted-proper (job .bytes) h)
 
-    -- A node's estimate fits a slot.
-    pub estimate-narrow : (n : Node) → sys job .estimate n < 1073741824
-    estimate-narrow n = omega arith
-
     -- An accepted job has at most 64 actions.
     pub few-actions : actionCount (job .bytes) ≤ 64
     few-actions = omega (arith, length-actions (job .bytes), accepted-proper (job .bytes) h .few-actions)
@@ -43,3 +44,23 @@ module _ (job : Query) where
     -- An accepted job has at most 8 hints.
     pub few-hints : hintCount (job .bytes) ≤ 8
     few-hints = omega (arith, length-hints (job .bytes), accepted-proper (job .bytes) h .few-hints)
+
+  -- ---- which of the nodes that a step or the start leads to are reached
+
+  abbrev reachedOf : Option Node → Option Node
+  reachedOf = kept (λ (n : Node). has (nodeEstimate (jobFor job) n))
+
+  -- Arrays of equal nodes have equal estimates.
+  pub same-estimated : {a b : List ℕ} {e : ℕ} → nodeFor job a ≡ nodeFor job b → HasEstimate job b e → HasEstimate job a e
+  same-estimated d x = record { is = ap (nodeEstimate (jobFor job)) d ∙ x .is; fits = x .fits }
+
+  -- A node that has an estimate is reached.
+  pub reached-some : {o : Option Node} {a : List ℕ} {e : ℕ} → o ≡ some (nodeFor job a) → HasEstimate job a e → reachedOf o ≡ some (nodeFor job a)
+  reached-some {o} {a} d e = (kept-some (λ (n : Node). has (nodeEstimate (jobFor job) n)) o (nodeFor job a)) .1 (d, ap has (e .is))
+
+  -- A node that has none is not.
+  pub reached-hopeless : {o : Option Node} {n : Node} → o ≡ some n → nodeEstimate (jobFor job) n ≡ none → reachedOf o ≡ none
+  reached-hopeless d e = kept-out (λ (n : Node). has (nodeEstimate (jobFor job) n)) d (ap has e)
+
+  pub reached-none : {o : Option Node} → o ≡ none → reachedOf o ≡ none
+  reached-none d = kept-none (λ (n : Node). has (nodeEstimate (jobFor job) n)) d

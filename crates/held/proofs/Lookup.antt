@@ -8,14 +8,15 @@ use native.Mathlib.Omega.{arith}
 use lib.ListN.{length, take}
 use Rattle.model.specs.logic.Formula.{choose}
 use Rattle.model.specs.exploration.Key.{Key, less}
+use Rattle.model.specs.exploration.Guided.{valueOf}
 use Rattle.model.specs.job.Layout.{constraintCount}
 use Rattle.model.specs.search.Node.{sameNumbers, sameNode}
 use Rattle.model.specs.search.Query.{Query}
 use Rattle.model.specs.calls.Search.{slotBytes}
 use Rattle.model.proofs.exploration.Each.{All}
-use Rattle.dijkstra.specs.Records as search
-use Rattle.dijkstra.specs.Records.{rankIn, find, leastOpen}
-use Rattle.dijkstra.proofs.Finding.{least-some}
+use Rattle.astar.specs.Records as search
+use Rattle.astar.specs.Records.{rankIn, find, leastOpen}
+use Rattle.astar.proofs.Finding.{least-some}
 use Rattle.table.specs.declared.Slot.{Slot}
 use Rattle.table.specs.declared.Found.{Found}
 use Rattle.table.specs.declared.Found.the-variants.{At, Nothing}
@@ -41,7 +42,7 @@ module _ (job : Query) where
   -- The rank of a sound slot's record is the slot's.
   pub held-rank : (s : Slot) → Sound job s → rankIn (sys job) (heldIs job s) ≡ rankAt s
   unfolding heldIs
-  held-rank s h = ap (λ (e : ℕ). keyOf (s .cost + e) (s .steps)) (sym (h .estimated))
+  held-rank s h = ap (λ (e : Option ℕ). keyOf (s .cost + valueOf e) (s .steps)) (h .estimated .is)
 
   -- ---- the slot of a node
 

@@ -15,10 +15,10 @@ use Rattle.model.specs.search.Query.{Query}
 use Rattle.model.specs.calls.Search.{slotBytes}
 use Rattle.model.proofs.exploration.Each.{All, all-map}
 use Rattle.model.proofs.exploration.Counting.{Apart, apart-length}
-use Rattle.dijkstra.specs.Records.{Held, Table, take-it}
-use Rattle.dijkstra.proofs.Slots.{Holds, holds-one}
-use Rattle.dijkstra.proofs.Invariant.{Linked, Inv, linked-steps, steps-linked}
-use Rattle.dijkstra.proofs.Taken.{takenIn, taken-le, taken-take}
+use Rattle.astar.specs.Records.{Held, Table, take-it}
+use Rattle.astar.proofs.Slots.{Holds, holds-one}
+use Rattle.astar.proofs.Invariant.{Linked, Inv, linked-steps, steps-linked}
+use Rattle.astar.proofs.Taken.{takenIn, taken-le, taken-take}
 use Rattle.table.specs.Slots.{slotAt}
 use Rattle.held.specs.Held.{sys, heldIs, heldIn}
 use Rattle.held.proofs.HeldLaws.{length-held, held-at}

@@ -8,8 +8,8 @@ use lib.Seq.{take-set-lt, take-suc-set}
 use Rattle.model.specs.search.Query.{Query}
 use Rattle.model.specs.calls.Search.{slotBytes}
 use Rattle.model.proofs.exploration.Each.{All, all-append}
-use Rattle.dijkstra.specs.Records.{take-it, mark}
-use Rattle.dijkstra.proofs.Taking.{mark-is}
+use Rattle.astar.specs.Records.{take-it, mark}
+use Rattle.astar.proofs.Taking.{mark-is}
 use Rattle.table.specs.declared.Slot.{Slot}
 use Rattle.table.specs.Slots.{slots, slotAt, takenSlot}
 use Rattle.table.proofs.SlotLaws.{slot-inside}

@@ -1,16 +1,16 @@
 -- The slots of a table as the records of a search, for what is asked.
 use mathlib.Core.Path.{_≡_}
-use Prim.Native.Nat.{ℕ, _*_, _≤_}
+use Prim.Native.Nat.{ℕ, _*_, _≤_, _<_}
 use mathlib.Core.Option.{Option, none, some}
 use mathlib.Core.List.{List, map}
 use lib.ListN.{take}
 use Rattle.model.specs.exploration.System.{System}
 use Rattle.model.specs.job.Layout.{constraintCount, hintCount}
 use Rattle.model.specs.search.Node.{Node}
-use Rattle.model.specs.search.JobSystem.{systemOf, isGoal}
+use Rattle.model.specs.search.JobSystem.{nodeEstimate, systemOf, isGoal}
 use Rattle.model.specs.search.Query.{Query, jobFor}
 use Rattle.model.proofs.exploration.Each.{All}
-use Rattle.dijkstra.specs.Records.{Held, Table}
+use Rattle.astar.specs.Records.{Held, Table}
 use Rattle.table.specs.declared.Slot.{Slot}
 use Rattle.table.specs.declared.Found.{Found}
 use Rattle.table.specs.declared.Found.the-variants.{At, Nothing}
@@ -43,13 +43,18 @@ module _ (job : Query) where
   unfolding heldIs slots
   heldIn n table = map heldIs (take n (slots table))
 
+  -- The node of an array has this estimate, which fits a slot.
+  pub record HasEstimate (a : List ℕ) (e : ℕ) : Type 0 where
+    pub is : nodeEstimate (jobFor job) (nodeFor a) ≡ some e
+    pub fits : e < 1073741824
+
   -- What holds of every slot in use: nothing after its last residuals, its goal mark and its estimate are its node's, and costs are sums of
   -- 16-bit numbers.
   pub record Sound (s : Slot) : Type 0 where
     pub clean : Clean (constraintCount (job .bytes)) (s .node)
     pub cleanHints : CleanHints (hintCount (job .bytes)) (s .hints)
     pub marked : s .goal ≡ isGoal (jobFor job) (nodeFor (s .node))
-    pub estimated : s .estimate ≡ sys .estimate (nodeFor (s .node))
+    pub estimated : HasEstimate (s .node) (s .estimate)
     pub summed : s .cost ≤ 65535 * s .steps
 
   abbrev pub SoundTo : ℕ → List ℕ → Type 0

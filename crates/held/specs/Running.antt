@@ -7,18 +7,17 @@ use lib.ListN.{length}
 use Rattle.model.specs.declared.Verdict.the-variants.{Fine}
 use Rattle.model.specs.job.Decoding.{jobVerdict}
 use Rattle.model.specs.search.Node.{Node}
-use Rattle.model.specs.search.JobSystem.{startNode}
-use Rattle.model.specs.search.Query.{Query, jobFor}
+use Rattle.model.specs.search.Query.{Query}
 use Rattle.model.specs.calls.Search.{slotBytes}
-use Rattle.dijkstra.proofs.Turning.{Ready}
-use Rattle.dijkstra.proofs.Sending.{Expanding}
+use Rattle.astar.proofs.Turning.{Ready}
+use Rattle.astar.proofs.Sending.{Expanding}
 use Rattle.table.specs.Slots.{slotAt}
 use Rattle.held.specs.Held.{sys, heldIs, heldIn, SoundTo}
 
 -- the job is accepted, its start node is reached, and n of so many slots are in use
 pub record Running (job : Query) (m0 : Node) (places n : ℕ) (table : List ℕ) : Type 0 where
   pub accepted : jobVerdict (job .bytes) ≡ Fine
-  pub starts : startNode (jobFor job) ≡ some m0
+  pub starts : sys job .start ≡ some m0
   pub room : places * slotBytes ≤ length table
   pub most : places ≤ 65536
   pub used : n ≤ places

@@ -1,6 +1,7 @@
 -- The definitions evaluated on small jobs: that they compute, and say what a reader expects.
 use mathlib.Core.Path.{_≡_, refl}
 use Prim.Native.Nat.{ℕ}
+use mathlib.Core.Option.{none, some}
 use mathlib.Core.List.{List, [], _∷_, _++_, map}
 use Rattle.model.specs.declared.Verdict.the-variants.{Fine, Bad}
 use Rattle.model.specs.declared.Validated.the-variants.{Passed, Refused}
@@ -8,7 +9,9 @@ use Rattle.model.specs.declared.Searched.the-variants.{Planned, Refused 
 use Rattle.model.specs.Verdict.{refusal}
 use Rattle.model.specs.Cases.{facts, P, P-rule, P-hint}
 use Rattle.model.specs.job.Decoding.{jobVerdict}
+use Rattle.model.specs.job.Job.{Action, Job}
 use Rattle.model.specs.job.Layout.{jobOf}
+use Rattle.model.specs.search.Estimate.{levelOf, estimateOf}
 use Rattle.model.specs.search.JobSystem.{reachedCount}
 use Rattle.model.specs.calls.Search.{ruled}
 use Rattle.model.specs.calls.Validate.{validated}
@@ -83,3 +86,32 @@ not-with-lamp = refl
 unknown-fact : jobVerdict (forbidding 0 0 8) ≡ Bad (refusal 3 116)
 unfolding jobVerdict forbidding
 unknown-fact = refl
+
+-- ---- estimates
+
+-- job P: at the start sanding (5) is dearer than the lamp (2), and the pass (9) needs both; then with sanding done, with the lamp on, with both, and at
+-- the goal
+estimates : map (λ (s : ℕ). estimateOf (jobOf P) s) (0 ∷ 1 ∷ 2 ∷ 3 ∷ 4 ∷ []) ≡ some 14 ∷ some 11 ∷ some 14 ∷ some 9 ∷ some 0 ∷ []
+unfolding estimateOf jobOf P
+estimates = refl
+
+-- what a step forbids is overlooked: the pass forbids what it needs, and the estimate stays
+overlooked : estimateOf (jobOf (forbidding 0 0 1)) 0 ≡ some 14
+unfolding estimateOf jobOf forbidding
+overlooked = refl
+
+-- two free steps, each of which needs what the other adds; the goal is the fact of the first
+unfoldable free-cycle : Job
+free-cycle = record { start = 0; goal = 1; actions = free 2 1 ∷ free 1 2 ∷ []; constraints = []; hints = [] }
+  where
+    free : ℕ → ℕ → Action
+    free pre add = record { pre = pre; add = add; del = 0; forbidden = 0; cost = 0 }
+
+-- no fact can be built, although costs of 0 for both would solve the equations, too; without a goal the estimate is 0
+built-by-each-other : estimateOf free-cycle 0 ≡ none
+unfolding estimateOf free-cycle
+built-by-each-other = refl
+
+no-goal : levelOf free-cycle 0 0 ≡ some 0
+unfolding levelOf free-cycle
+no-goal = refl

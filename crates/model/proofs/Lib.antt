@@ -5,5 +5,6 @@ pub mod logic
 pub mod task
 pub mod exploration
 pub mod job
+pub mod estimate
 pub mod calls
 pub mod Examples

@@ -1,4 +1,4 @@
--- The equations of exploration have one solution, `reached` is it, and `solve` answers by it.
+-- The equations of exploration have one solution, `reached` is it, and `solve` answers by it; an estimate leaves the plans as they are.
 pub mod KeyLaws
 pub mod Laws
 pub mod Stepping
@@ -16,3 +16,5 @@ pub mod FirstPaths
 pub mod Best
 pub mod Answered
 pub mod Optimality
+pub mod Guiding
+pub mod Pruning

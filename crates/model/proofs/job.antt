@@ -11,5 +11,6 @@ pub mod FiniteNodes
 pub mod ResidualsHold
 pub mod HintMeaning
 pub mod PlansAsRuns
+pub mod GuidedJob
 pub mod BestPlan
 pub mod AcceptedPlans

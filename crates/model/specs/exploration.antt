@@ -3,3 +3,4 @@ pub mod Key
 pub mod System
 pub mod Equations
 pub mod Explore
+pub mod Guided

@@ -1,4 +1,4 @@
--- Counts and actions that are read of an accepted job.
+-- Residuals counted, and an action that is read of an accepted job.
 use mathlib.Core.Path.{_≡_, sym, _∙_}
 use mathlib.Core.List.{List}
 use Prim.Native.Nat.{ℕ, _≤_, _<_}
@@ -7,25 +7,10 @@ use lib.Seq.{length-take-le}
 use Rattle.model.specs.logic.Formula.{Formula}
 use Rattle.model.specs.logic.Truth.{World}
 use Rattle.model.specs.job.Job.{Action, actionOf}
-use Rattle.model.specs.job.Layout.{actionCount, constraintCount, hintCount, actionAt, jobOf}
+use Rattle.model.specs.job.Layout.{actionCount, actionAt, jobOf}
 use Rattle.model.specs.search.Node.{progressedAll}
 use Rattle.model.proofs.job.ResidualLists.{length-progressedAll}
-use Rattle.model.proofs.job.VerdictLaws.{length-listOf}
 use Rattle.job.proofs.Accepted.{action-of}
-
--- There are as many actions and formulas as the head says.
-module _ (bytes : List ℕ) where
-  pub length-actions : length (jobOf bytes .actions) ≡ actionCount bytes
-  unfolding jobOf
-  length-actions = length-listOf _ (actionCount bytes)
-
-  pub length-constraints : length (jobOf bytes .constraints) ≡ constraintCount bytes
-  unfolding jobOf
-  length-constraints = length-listOf _ (constraintCount bytes)
-
-  pub length-hints : length (jobOf bytes .hints) ≡ hintCount bytes
-  unfolding jobOf
-  length-hints = length-listOf _ (hintCount bytes)
 
 -- As many residuals are left as there are formulas.
 pub length-left : (φs : List Formula) (n : ℕ) (rs : List ℕ) (w : World) → length φs ≡ n → n ≤ length rs → length (progressedAll φs (take n rs) w) ≡ n
@@ -37,6 +22,3 @@ module _ (bytes : List ℕ) {i k : ℕ} (e : k ≡ i) (l : i < actionCount bytes
       → f ≡ actionAt bytes k .forbidden → c ≡ actionAt bytes k .cost
       → _≡_ {A = Action} (record { pre = p; add = a; del = d; forbidden = f; cost = c }) (actionOf (jobOf bytes) i)
   action-read p a d f c = rw (action-of bytes i l, ← e) (λ t. record { pre = p t; add = a t; del = d t; forbidden = f t; cost = c t })
-
-  pub cost-read : {c : ℕ} → c ≡ actionAt bytes k .cost → c ≡ actionOf (jobOf bytes) i .cost
-  cost-read c = rw (action-of bytes i l, ← e) c

@@ -1,5 +1,6 @@
 // The nodes of an accepted job as values, for the search. A node is nine numbers: the state, then the residual of each constraint, and 0 after the
 // last. The residuals of the hints, which a path carries beside its node, are eight numbers.
+use estimate::Estimated;
 use job::access;
 use model::NODE;
 use task::Action;
@@ -15,6 +16,7 @@ ghost use Rattle.model.specs.job.Decoding.{jobVerdict};
 ghost use Rattle.model.specs.search.Node.{someDead};
 ghost use Rattle.model.specs.search.JobSystem.{startNode, nextNode, isGoal, startHints, carryHints};
 ghost use Rattle.task.specs.Meaning.{actionIs};
+ghost use Rattle.estimate.specs.Meaning.{Estimates};
 ghost use Rattle.progression.specs.Workspace.{Workspace};
 ghost use Rattle.nodes.specs.Meaning.{nodeIs, hintsIs, actionsFrom, choicesIn, Acts, Costs, Applies, Made, Leads, Carries};
 
@@ -183,6 +185,14 @@ pub fn is_goal(job: &[u8], work: &mut [u64], node: [u64; NODE]) -> bool
         return false;
     }
     progression::constraints_close(job, work, residuals_of(node), facts)
+}
+
+// The estimate of the cost that is left from a node, which is that of its state; a node that has none is not reached.
+pub fn estimate_of(job: &[u8], node: [u64; NODE]) -> Estimated
+    requires { ⌜ jobVerdict (now job) ≡ Fine ⌝ }
+    ensures { λ r. ⌜ Estimates (jobOf (now (job .entry))) (nodeIs (constraintCount (now (job .entry))) node .state) r ⌝ }
+{
+    estimate::estimate(job, node[0])
 }
 
 pub fn start_hints(job: &[u8]) -> [u64; 8]

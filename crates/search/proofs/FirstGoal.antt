@@ -14,9 +14,9 @@ use Rattle.model.specs.logic.Formula.{choose}
 use Rattle.model.specs.search.Node.{Node}
 use Rattle.model.specs.search.Query.{Query}
 use Rattle.model.specs.calls.Search.{slotBytes}
-use Rattle.dijkstra.specs.Records.{Held, Table, pathOf}
-use Rattle.dijkstra.specs.Search.{firstGoal}
-use Rattle.dijkstra.proofs.Invariant.{Inv}
+use Rattle.astar.specs.Records.{Held, Table, pathOf}
+use Rattle.astar.specs.Search.{firstGoal}
+use Rattle.astar.proofs.Invariant.{Inv}
 use Rattle.table.specs.declared.Slot.{Slot}
 use Rattle.table.specs.declared.Found.{Found}
 use Rattle.table.specs.declared.Found.the-variants.{At, Nothing}

@@ -22,8 +22,8 @@ use Rattle.model.specs.job.Layout.{jobOf}
 use Rattle.model.specs.job.Decoding.{jobVerdict}
 use Rattle.model.specs.search.JobSystem.{solveJob, reachedCount}
 use Rattle.model.specs.search.Query.{query}
-use Rattle.dijkstra.specs.Search.{Result, answered, too-small, searchIn}
-use Rattle.dijkstra.proofs.Right.{search-right}
+use Rattle.astar.specs.Search.{Result, answered, too-small, searchIn}
+use Rattle.astar.proofs.Right.{search-right}
 use Rattle.table.specs.Slots.{slotAt}
 use Rattle.paths.specs.Chain.{held, stepsAt, slotPath}
 use Rattle.held.specs.Held.{sys}

@@ -17,7 +17,7 @@ use Rattle.model.specs.search.Query.{Query}
 use Rattle.model.specs.calls.Search.{slotBytes}
 use Rattle.model.proofs.exploration.KeyLaws.{same-key}
 use Rattle.model.proofs.Tests.{and-both}
-use Rattle.dijkstra.specs.Search.{someCutIn}
+use Rattle.astar.specs.Search.{someCutIn}
 use Rattle.table.specs.declared.Slot.{Slot}
 use Rattle.table.specs.declared.Found.{Found}
 use Rattle.table.specs.declared.Found.the-variants.{At, Nothing}

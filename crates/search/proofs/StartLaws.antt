@@ -14,17 +14,17 @@ use Rattle.model.specs.exploration.Equations.{no-plan}
 use Rattle.model.specs.job.Layout.{constraintCount, hintCount}
 use Rattle.model.specs.job.Decoding.{jobVerdict}
 use Rattle.model.specs.search.Node.{Node}
-use Rattle.model.specs.search.JobSystem.{startNode, isGoal, startHints}
+use Rattle.model.specs.search.JobSystem.{isGoal, startHints}
 use Rattle.model.specs.search.Query.{Query, jobFor}
 use Rattle.model.specs.calls.Search.{slotBytes}
-use Rattle.dijkstra.specs.Records.{Held}
-use Rattle.dijkstra.specs.Search.{answered, too-small, turns, startTable, searchIn}
-use Rattle.dijkstra.proofs.Turning.{Ready, start-ready}
-use Rattle.dijkstra.proofs.Right.{by-start}
+use Rattle.astar.specs.Records.{Held}
+use Rattle.astar.specs.Search.{answered, too-small, turns, startTable, searchIn}
+use Rattle.astar.proofs.Turning.{Ready, start-ready}
+use Rattle.astar.proofs.Right.{by-start}
 use Rattle.table.specs.declared.Slot.{Slot}
 use Rattle.table.specs.Slots.{slots}
 use Rattle.nodes.specs.Meaning.{Clean, Carries}
-use Rattle.held.specs.Held.{sys, nodeFor, heldIs, heldIn, Sound}
+use Rattle.held.specs.Held.{sys, nodeFor, heldIs, heldIn, HasEstimate, Sound}
 use Rattle.held.specs.Running.{Idle}
 use Rattle.held.proofs.JobLaws.{sys-laws}
 use Rattle.held.proofs.Storing.{append-held, append-sound}
@@ -34,38 +34,33 @@ use Rattle.search.specs.Outcome.{EndsAs, Begun}
 -- ---- the start node in slot 0
 
 -- the slot of a start node
-abbrev pub startSlot : List ℕ → List ℕ → Bool → Slot
-startSlot node hints goal = record { node = node; hints = hints; cost = 0; steps = 0; estimate = 0; parent = 0; action = 0; taken = false; goal = goal }
+abbrev pub startSlot : List ℕ → List ℕ → ℕ → Bool → Slot
+startSlot node hints estimate goal =
+    record { node = node; hints = hints; cost = 0; steps = 0; estimate = estimate; parent = 0; action = 0; taken = false; goal = goal }
 
-module _ (job : Query) (t u node hints : List ℕ) (goal : Bool) (clean : Clean (constraintCount (job .bytes)) node)
+module _ (job : Query) (t u node hints : List ℕ) (estimate : ℕ) (goal : Bool) (clean : Clean (constraintCount (job .bytes)) node)
+    (estimated : HasEstimate job node estimate)
     (carried : Carries (hintCount (job .bytes)) (startHints (jobFor job)) hints)
     (marked : goal ≡ isGoal (jobFor job) (nodeFor job node)) where
   -- It is sound, and stands for the first record of the start table.
-  start-sound : Sound job (startSlot node hints goal)
-  start-sound = record { clean = clean; cleanHints = carried .clean; marked = marked; estimated = refl; summed = omega arith }
+  start-sound : Sound job (startSlot node hints estimate goal)
+  start-sound = record { clean = clean; cleanHints = carried .clean; marked = marked; estimated = estimated; summed = omega arith }
 
-  start-record : heldIs job (startSlot node hints goal) ≡ record {
-    node = nodeFor job node;
-    key = zeroKey;
-    hints = startHints
-        (jobFor job);
-    parent = 0;
-    action = 0;
-    taken = false;
-  }
+  start-record : heldIs job (startSlot node hints estimate goal)
+      ≡ record { node = nodeFor job node; key = zeroKey; hints = startHints (jobFor job); parent = 0; action = 0; taken = false }
   unfolding heldIs zeroKey
   start-record = λ z. record { node = nodeFor job node; key = zeroKey; hints = carried .carries z; parent = 0; action = 0; taken = false }
 
   -- Stored as slot 0, it is the start table.
-  pub begun : slots u ≡ set (slots t) 0 (startSlot node hints goal) → slotBytes ≤ length t → Begun job node u
+  pub begun : slots u ≡ set (slots t) 0 (startSlot node hints estimate goal) → slotBytes ≤ length t → Begun job node u
   unfolding startTable heldIn
   begun e l = record {
-    begins = append-held job t u 0 (startSlot node hints goal) e l ∙ ap (λ (r : Held (sys job)). r ∷ []) start-record;
-    sound = append-sound job t u 0 (startSlot node hints goal) e l start-sound tt;
+    begins = append-held job t u 0 (startSlot node hints estimate goal) e l ∙ ap (λ (r : Held (sys job)). r ∷ []) start-record;
+    sound = append-sound job t u 0 (startSlot node hints estimate goal) e l start-sound tt;
   }
 
 -- The search begins with a table between two turns.
-pub begun-idle : {job : Query} {places : ℕ} {u node : List ℕ} → jobVerdict (job .bytes) ≡ Fine → startNode (jobFor job) ≡ some (nodeFor job node)
+pub begun-idle : {job : Query} {places : ℕ} {u node : List ℕ} → jobVerdict (job .bytes) ≡ Fine → sys job .start ≡ some (nodeFor job node)
     → Begun job node u
     → places * slotBytes ≤ length u → places ≤ 65536 → 0 < places → Idle job places 1 u
 begun-idle {job} {places} {u} {node} fine starts b room most l =
@@ -92,7 +87,7 @@ module _ (S : System) (places : ℕ) where
 
 -- What the turns end as, the search does.
 pub begun-ends : {job : Query} {u node : List ℕ} {places slots : ℕ} (t : List ℕ) (r : Ended) → Begun job node u
-    → startNode (jobFor job) ≡ some (nodeFor job node)
+    → sys job .start ≡ some (nodeFor job node)
     → EndsAs t r (turns (sys job) places (suc places) (heldIn job 1 u)) → places ≡ slots → 0 < places → EndsAs t r (searchIn (sys job) slots)
 begun-ends {job} {u} {node} {places} {slots} t r b starts h e l =
     subst (EndsAs t r) (ap (turns (sys job) places (suc places)) (b .begins) ∙ sym (search-turns (sys job) places starts l) ∙ ap (searchIn (sys job)) e) h

@@ -10,12 +10,12 @@ use Rattle.model.specs.exploration.System.{System}
 use Rattle.model.specs.exploration.Equations.{plan, no-plan}
 use Rattle.model.specs.search.Query.{Query}
 use Rattle.model.specs.calls.Search.{slotBytes}
-use Rattle.dijkstra.specs.Records.{Held, Open, Table, leastOpen, take-it, mark}
-use Rattle.dijkstra.specs.Search.{Result, answered, too-small, Filled, goes-on, full, follow, expand, firstGoal, someCutIn, exhausted, turns}
-use Rattle.dijkstra.proofs.Slots.{Holds, holds-one}
-use Rattle.dijkstra.proofs.Sending.{Expanding}
-use Rattle.dijkstra.proofs.Turning as turning
-use Rattle.dijkstra.proofs.Turning.{Ready, turn-cut, turn-uncut, turn-expanded}
+use Rattle.astar.specs.Records.{Held, Open, Table, leastOpen, take-it, mark}
+use Rattle.astar.specs.Search.{Result, answered, too-small, Filled, goes-on, full, follow, expand, firstGoal, someCutIn, exhausted, turns}
+use Rattle.astar.proofs.Slots.{Holds, holds-one}
+use Rattle.astar.proofs.Sending.{Expanding}
+use Rattle.astar.proofs.Turning as turning
+use Rattle.astar.proofs.Turning.{Ready, turn-cut, turn-uncut, turn-expanded}
 use Rattle.table.specs.declared.Slot.{Slot}
 use Rattle.table.specs.declared.Found.{Found}
 use Rattle.table.specs.declared.Found.the-variants.{At, Nothing}

@@ -6,7 +6,7 @@ use Rattle.model.specs.declared.Searched.{Searched}
 use Rattle.model.specs.calls.Search as calls
 use Rattle.model.specs.calls.Search.{SearchEnd, searchEnd, cleared, tooSmall}
 use Rattle.model.specs.exploration.Equations.{plan}
-use Rattle.dijkstra.specs.Search.{Result, answered, too-small}
+use Rattle.astar.specs.Search.{Result, answered, too-small}
 
 -- the end that a result in a table comes to
 abbrev pub endOf : Result → List ℕ → List ℕ → SearchEnd

@@ -8,16 +8,15 @@ use Rattle.model.specs.exploration.Equations.{plan, no-plan}
 use Rattle.model.specs.declared.Verdict.the-variants.{Fine}
 use Rattle.model.specs.job.Decoding.{jobVerdict}
 use Rattle.model.specs.job.Layout.{constraintCount}
-use Rattle.model.specs.search.JobSystem.{startNode}
-use Rattle.model.specs.search.Query.{Query, jobFor}
+use Rattle.model.specs.search.Query.{Query}
 use Rattle.model.specs.calls.Search.{slotBytes}
-use Rattle.dijkstra.specs.Records.{leastOpen}
-use Rattle.dijkstra.specs.Search.{Result, answered, too-small, firstGoal, turns, startTable}
+use Rattle.astar.specs.Records.{leastOpen}
+use Rattle.astar.specs.Search.{Result, answered, too-small, firstGoal, turns, startTable}
 use Rattle.table.specs.Slots.{slotAt}
 use Rattle.table.specs.Lookup.{rankAt}
 use Rattle.nodes.specs.Meaning.{Clean}
 use Rattle.paths.specs.Chain.{held, stepsAt, slotPath, Chained}
-use Rattle.held.specs.Held.{sys, nodeFor, heldIn, SoundTo}
+use Rattle.held.specs.Held.{sys, nodeFor, heldIn, HasEstimate, SoundTo}
 use Rattle.held.specs.Running.{Idle}
 use Rattle.search.specs.declared.Ended.{Ended}
 use Rattle.search.specs.declared.Ended.the-variants as ended
@@ -49,10 +48,11 @@ pub record Taking (job : Query) (places n : ℕ) (t : List ℕ) (i : ℕ) : Type
   pub chosen : Least job n t i
   pub noGoal : firstGoal (sys job) (heldIn job n t) (rankAt (slotAt t i)) (heldIn job n t) 0 ≡ none
 
--- A search of an accepted job can begin: its start node, of that array, is reached, and there is a slot for it.
-pub record Starts (job : Query) (places : ℕ) (node t : List ℕ) : Type 0 where
+-- A search of an accepted job can begin: its start node, of that array, is reached with that estimate, and there is a slot for it.
+pub record Starts (job : Query) (places : ℕ) (node : List ℕ) (estimate : ℕ) (t : List ℕ) : Type 0 where
   pub accepted : jobVerdict (job .bytes) ≡ Fine
-  pub starts : startNode (jobFor job) ≡ some (nodeFor job node)
+  pub starts : sys job .start ≡ some (nodeFor job node)
+  pub estimated : HasEstimate job node estimate
   pub clean : Clean (constraintCount (job .bytes)) node
   pub some-place : 0 < places
   pub room : places * slotBytes ≤ length t

@@ -8,7 +8,7 @@ ghost use Rattle.model.specs.declared.Verdict.the-variants.{Fine};
 ghost use Rattle.model.specs.job.Decoding.{jobVerdict};
 ghost use Rattle.model.specs.search.Query.{query};
 ghost use Rattle.model.specs.calls.Search.{slotBytes};
-ghost use Rattle.dijkstra.specs.Search.{someCutIn};
+ghost use Rattle.astar.specs.Search.{someCutIn};
 ghost use Rattle.table.specs.Slots.{slotAt};
 ghost use Rattle.paths.specs.Chain.{held, Chained};
 ghost use Rattle.held.specs.Held.{sys, heldIs, heldIn};

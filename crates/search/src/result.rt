@@ -11,7 +11,7 @@ ghost use Rattle.model.specs.declared.Verdict.the-variants.{Fine};
 ghost use Rattle.model.specs.calls.Search.{searchEnd, slotsIn, cleared, slotBytes};
 ghost use Rattle.model.specs.job.Decoding.{jobVerdict};
 ghost use Rattle.model.specs.search.Query.{query};
-ghost use Rattle.dijkstra.specs.Search.{searchIn};
+ghost use Rattle.astar.specs.Search.{searchIn};
 ghost use Rattle.table.specs.Slots.{slotAt};
 ghost use Rattle.paths.specs.Chain.{held, stepsAt, slotPath, Chained};
 ghost use Rattle.held.specs.Held.{sys};

@@ -1,6 +1,8 @@
-// The start of the search: the start node in slot 0, if it is reached and there is a slot.
+// The start of the search: the start node in slot 0, if it is reached and there is a slot. It is reached if no constraint is dead there and it has an
+// estimate.
 use super::Ended;
 use super::turns;
+use estimate::Estimated;
 use model::NODE;
 use table::Slot;
 use table::slots;
@@ -13,15 +15,16 @@ ghost use Rattle.model.specs.calls.Search.{slotsIn, slotBytes};
 ghost use Rattle.model.specs.job.Layout.{constraintCount};
 ghost use Rattle.model.specs.job.Decoding.{jobVerdict};
 ghost use Rattle.model.specs.search.Query.{query};
-ghost use Rattle.dijkstra.specs.Search.{searchIn};
+ghost use Rattle.astar.specs.Search.{searchIn};
 ghost use Rattle.nodes.specs.Meaning.{Clean};
-ghost use Rattle.held.specs.Held.{sys};
+ghost use Rattle.held.specs.Held.{sys, HasEstimate};
 ghost use Rattle.progression.specs.Workspace.{Workspace};
 ghost use Rattle.search.specs.Outcome.{EndsAs, Starts, Begun};
 
-// Writes the start node, which has no parent, to slot 0; for now every estimate is 0.
-fn begin(job: &[u8], work: &mut [u64], t: &mut [u8], node: [u64; NODE])
-    requires { ⌜ (jobVerdict (now job) ≡ Fine) × Clean (constraintCount (now job)) node × (slotBytes ≤ length (now t)) × Workspace (now job) (now work) ⌝ }
+// Writes the start node, which has no parent, to slot 0.
+fn begin(job: &[u8], work: &mut [u64], t: &mut [u8], node: [u64; NODE], estimate: u64)
+    requires { ⌜ (jobVerdict (now job) ≡ Fine) × Clean (constraintCount (now job)) node × HasEstimate (query (now job)) node estimate
+        × (slotBytes ≤ length (now t)) × Workspace (now job) (now work) ⌝ }
     ensures { λ _. ⌜ Begun (query (now (job .entry))) node (now (t .exit)) × Workspace (now (job .entry)) (now (work .exit)) ⌝ }
 {
     let hints = nodes::start_hints(job);
@@ -35,7 +38,7 @@ fn begin(job: &[u8], work: &mut [u64], t: &mut [u8], node: [u64; NODE])
             hints,
             cost: key.cost,
             steps: key.steps,
-            estimate: 0,
+            estimate,
             parent: 0,
             action: 0,
             taken: false,
@@ -45,26 +48,33 @@ fn begin(job: &[u8], work: &mut [u64], t: &mut [u8], node: [u64; NODE])
 }
 
 // The search from the start node, in a table of so many places.
-fn from_start(job: &[u8], work: &mut [u64], t: &mut [u8], places: usize, node: [u64; NODE]) -> Ended
-    requires { ⌜ Starts (query (now job)) places node (now t) × Workspace (now job) (now work) ⌝ }
+fn from_start(
+    job: &[u8],
+    work: &mut [u64],
+    t: &mut [u8],
+    places: usize,
+    node: [u64; NODE],
+    estimate: u64,
+) -> Ended
+    requires { ⌜ Starts (query (now job)) places node estimate (now t) × Workspace (now job) (now work) ⌝ }
     ensures { λ r. ⌜ EndsAs (now (t .exit)) r (searchIn (sys (query (now (job .entry)))) places) ⌝ }
 {
-    begin(job, work, t, node);
+    begin(job, work, t, node, estimate);
     turns::run(job, work, t, places)
 }
 
 // The same in a workspace of its own, which has a memo where that pays.
-fn in_workspace(job: &[u8], t: &mut [u8], places: usize, node: [u64; NODE]) -> Ended
-    requires { ⌜ Starts (query (now job)) places node (now t) ⌝ }
+fn in_workspace(job: &[u8], t: &mut [u8], places: usize, node: [u64; NODE], estimate: u64) -> Ended
+    requires { ⌜ Starts (query (now job)) places node estimate (now t) ⌝ }
     ensures { λ r. ⌜ EndsAs (now (t .exit)) r (searchIn (sys (query (now (job .entry)))) places) ⌝ }
 {
     if progression::pays(job, places) {
         let mut work = [0u64; progression::WORDS];
         progression::prepare(job, &mut work);
-        return from_start(job, &mut work, t, places, node);
+        return from_start(job, &mut work, t, places, node, estimate);
     }
     let mut none = [0u64; 0];
-    from_start(job, &mut none, t, places, node)
+    from_start(job, &mut none, t, places, node, estimate)
 }
 
 // The search in a table, whatever its bytes are.
@@ -76,10 +86,13 @@ pub fn searched(job: &[u8], t: &mut [u8]) -> Ended
     if !first.alive {
         return Ended::NoPlan(12);
     }
+    let node = first.node;
+    let Estimated::Cost(left) = nodes::estimate_of(job, node) else {
+        return Ended::NoPlan(12);
+    };
     let places = slots::capacity(t);
     if places == 0 {
         return Ended::Full;
     }
-    let node = first.node;
-    in_workspace(job, t, places, node)
+    in_workspace(job, t, places, node, left)
 }

@@ -15,7 +15,7 @@ ghost use Rattle.model.specs.job.Decoding.{jobVerdict};
 ghost use Rattle.model.specs.search.Query.{query};
 ghost use Rattle.model.specs.calls.Search.{slotBytes};
 ghost use Rattle.progression.specs.Workspace.{Workspace};
-ghost use Rattle.dijkstra.specs.Search.{exhausted, turns};
+ghost use Rattle.astar.specs.Search.{exhausted, turns};
 ghost use Rattle.held.specs.Held.{sys, heldIn};
 ghost use Rattle.held.specs.Running.{Idle};
 ghost use Rattle.search.specs.Outcome.{EndsAs, Turned, Least, Taking};

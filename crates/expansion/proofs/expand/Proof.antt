@@ -1,5 +1,5 @@
 -- `expand` follows the actions in order: those below a came to the table at hand, and the choices are those of the others.
-use Rattle.job.proofs.Accepted.{accepted-laid}
+use Rattle.job.proofs.Accepted.{accepted-laid, length-actions}
 use Rattle.model.specs.job.Job.{actionOf}
 use Rattle.model.specs.job.Layout.{actionCount, constraintCount, jobOf}
 use Rattle.model.specs.search.Node.{Node}
@@ -15,7 +15,6 @@ use native.Mathlib.Omega.{arith}
 use lib.ListN.{length}
 use borrow.Author.Needs.{needs}
 use Rattle.nodes.specs.Meaning.{nodeIs, Applies}
-use Rattle.nodes.proofs.Fields.{length-actions}
 use Rattle.progression.specs.Workspace.{Workspace}
 use Rattle.expansion.proofs.Choosing as choosing
 use Rattle.expansion.proofs.Turns.{Going, going-start, going-end, going-next, going-full, going-on, going-past, carried}

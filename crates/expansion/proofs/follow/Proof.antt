@@ -1,6 +1,6 @@
 -- `follow` makes an arrival where the action leads to another node.
 use borrow.Author.Tests.{not-true, not-false}
-use Rattle.expansion.proofs.Growing.{grew-nowhere, grew-self, grew-to}
+use Rattle.expansion.proofs.Growing.{grew-nowhere, grew-self, leads-to}
 use borrow.Author.Needs.{needs}
 use Rattle.expansion.proofs.follow.Statement.{statement}
 use Rattle.expansion.proofs.follow.Tie as tie
@@ -32,8 +32,8 @@ itself c = c .before
 abbrev another : tie.Else2 → tie.After-same-node
 another c = c .before
 
-abbrev arriving : tie.After-arrive → tie.Else2
-arriving c = c .before .before .before
+abbrev arriving : tie.After-arrive-arg2 → tie.Else2
+arriving c = c .before .before
 
 abbrev arrived : tie.After-slice-known5 → tie.After-arrive
 arrived c = c .before .before .before .before
@@ -56,13 +56,15 @@ returns-2 c =
       n .next .ensures .1,
     )
 
-returns-3 : tie.Need-returns-3
-returns-3 c =
-    let w = arrived c in
-    let e = leads (another (arriving w)) in
+arrive-requires : tie.Need-arrive-requires
+arrive-requires c κs =
+    let e = leads (another (arriving c)) in
     let n = stepped (somewhere e) in
     let s = start n in
-    (grew-to (s .pre .0) (n .next .ensures .0) (not-false _ (e .if1 .left)) (w .arrive .ensures .0), w .arrive .ensures .1)
+    (s .pre .0, leads-to (s .pre .0) (n .next .ensures .0) (not-false _ (e .if1 .left)), n .next .ensures .1)
+
+returns-3 : tie.Need-returns-3
+returns-3 c = arrived c .arrive .ensures
 
 pub follow-spec : {M : Type 1} → statement M
 follow-spec =
@@ -74,7 +76,7 @@ follow-spec =
     (λ c κs. search needs)
     (λ c. search needs)
     returns-2
-    (λ c κs. search needs)
+    arrive-requires
     (λ c. search needs)
     (λ c. search needs)
     returns-3)

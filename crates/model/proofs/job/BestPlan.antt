@@ -23,10 +23,8 @@ use Rattle.model.proofs.exploration.Paths.{path-run}
 use Rattle.model.proofs.exploration.Optimality.{Kept, best-plan, no-goal-run}
 use Rattle.model.proofs.job.Accepted.{ProperJob}
 use Rattle.model.proofs.job.NodeLaws.{numbers-eq, numbers-same}
-use Rattle.model.proofs.job.SystemLaws.{job-laws}
-use Rattle.model.proofs.job.FiniteNodes.{job-finite}
-use Rattle.model.proofs.job.HintMeaning.{job-hints, meets-start}
-use Rattle.model.proofs.job.PlansAsRuns.{keyOf, allowed-run, run-allowed}
+use Rattle.model.proofs.job.GuidedJob.{job-laws, job-finite, job-hints, meets-start, allowed-run, run-allowed}
+use Rattle.model.proofs.job.PlansAsRuns.{keyOf}
 
 -- ---- answers taken apart
 

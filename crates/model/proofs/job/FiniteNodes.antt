@@ -11,7 +11,7 @@ use lib.Pow.{pow-add, pow-mono}
 use Rattle.model.specs.job.Job.{Job, Action, actionOf}
 use Rattle.model.specs.task.State.{after}
 use Rattle.model.specs.search.Node.{Node}
-use Rattle.model.specs.search.JobSystem.{startNode, nextNode, mostNodes, systemOf}
+use Rattle.model.specs.search.JobSystem.{startNode, nextNode, mostNodes, plainSystem}
 use Rattle.model.proofs.exploration.Laws.{Finite}
 use Rattle.model.proofs.job.Accepted.{ProperJob}
 use Rattle.model.proofs.job.NodeLaws.{start-some, next-some}
@@ -89,5 +89,5 @@ module _ (j : Job) where
         let q : m .residuals ≡ n .residuals = cc in
         λ i. record { state = p i; residuals = q i }
 
-    pub job-finite : Finite (systemOf j)
-    job-finite = record { Ok = Sized; start-ok = start-sized; step-ok = step-sized; code = code; code-lt = code-lt; code-eq = code-eq }
+    pub plain-finite : Finite (plainSystem j)
+    plain-finite = record { Ok = Sized; start-ok = start-sized; step-ok = step-sized; code = code; code-lt = code-lt; code-eq = code-eq }

@@ -13,7 +13,7 @@ use Rattle.model.specs.job.Job.{Job, actionOf}
 use Rattle.model.specs.task.State.{after}
 use Rattle.model.specs.task.Plan.{worldsAfter, worlds, meetsHints}
 use Rattle.model.specs.search.Node.{Node, someDead}
-use Rattle.model.specs.search.JobSystem.{startNode, nextNode, startHints, carryHints, HintSetting, hintTrueAt, Tables, systemOf}
+use Rattle.model.specs.search.JobSystem.{startNode, nextNode, startHints, carryHints, HintSetting, hintTrueAt, Tables, plainSystem}
 use Rattle.model.proofs.exploration.Laws.{HintLaws}
 use Rattle.model.proofs.job.Accepted.{ProperJob}
 use Rattle.model.proofs.job.NodeLaws.{worldAfter, start-some, next-some}
@@ -52,12 +52,12 @@ module _ (j : Job) where
         subst (λ (k : Node). meets k (carryHints j h k i) p ≡ meets m h (i ∷ p)) (((next-some j m i n) .0 e) .2)
         (right-next j (j .hints) (proper .hint-parts) h (worldAfter j (m .state) i) (after (actionOf j i) (m .state)) p)
 
-    pub job-hints : HintLaws (systemOf j)
-    job-hints = record { meets = meets; made = Made; meets-made = meets-made; carried = meets-carried; dead = meets-dead }
+    pub plain-hints : HintLaws (plainSystem j)
+    plain-hints = record { meets = meets; made = Made; meets-made = meets-made; carried = meets-carried; dead = meets-dead }
 
     -- A plan meets what the start leaves of the hints exactly if it meets the hints.
-    pub meets-start : (m : Node) (p : List ℕ) → startNode j ≡ some m → job-hints .meets m (startHints j) p ≡ meetsHints j p
-    unfolding job-hints meets startHints meetsHints worlds
+    pub meets-start : (m : Node) (p : List ℕ) → startNode j ≡ some m → plain-hints .meets m (startHints j) p ≡ meetsHints j p
+    unfolding plain-hints meets startHints meetsHints worlds
     meets-start m p e =
         subst (λ (k : Node). meets k (startHints j) p ≡ meetsHints j p) (((start-some j m) .0 e) .1)
         (right-first j (j .hints) (proper .hint-parts) (record { state = j .start; made = none }) (j .start) p)

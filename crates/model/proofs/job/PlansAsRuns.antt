@@ -14,7 +14,7 @@ use Rattle.model.specs.task.State.{within, after}
 use Rattle.model.specs.task.Plan.{stateAfter, worldsAfter, worlds, executable, allowed, costOf}
 use Rattle.model.specs.exploration.Key.{Key, zeroKey, extend}
 use Rattle.model.specs.search.Node.{Node, closingAll, someDead}
-use Rattle.model.specs.search.JobSystem.{startNode, nextNode, isGoal, systemOf}
+use Rattle.model.specs.search.JobSystem.{startNode, nextNode, isGoal, plainSystem}
 use Rattle.model.proofs.exploration.Runs.{Run, stop, on, run-steps}
 use Rattle.model.proofs.exploration.Optimality.{GoalRun}
 use Rattle.model.proofs.job.Accepted.{ProperJob}
@@ -66,7 +66,7 @@ module _ (j : Job) where
 
     -- Actions that can be made, and whose worlds meet the residuals of a node, are a run from it.
     makes-run : (p : List ℕ) (m : Node) (k : Key) → length (m .residuals) ≡ length (j .constraints) → executable j (m .state) p ≡ true → HoldsOn m p ≡ true
-        → (t : Node) × (l : Key) × Run (systemOf j) m k p t l
+        → (t : Node) × (l : Key) × Run (plainSystem j) m k p t l
     makes-run [] m k r e h = (m, k, stop)
     makes-run (i ∷ p) m k r e h =
         let n : Node = nodeAfter j m i in
@@ -84,7 +84,7 @@ module _ (j : Job) where
       pub meets : HoldsOn m p ≡ HoldsOn t []
       pub cost : l .cost ≡ k .cost + costOf j p
 
-    run-course : {m t : Node} {k l : Key} {p : List ℕ} → Run (systemOf j) m k p t l → Course m k p t l
+    run-course : {m t : Node} {k l : Key} {p : List ℕ} → Run (plainSystem j) m k p t l → Course m k p t l
     unfolding executable stateAfter costOf extend
     run-course stop = record { made = refl; state = refl; meets = refl; cost = omega arith }
     run-course (on {m = m} {n = n} {t = t} {k = k} {j = l} {as′ = p} i b s r) =
@@ -101,11 +101,11 @@ module _ (j : Job) where
     unfolding worlds
     start-holds p = right-first j (j .constraints) (proper .constraint-parts) (closingWorld (j .start)) (j .start) p
 
-    course-key : {m t : Node} {k : Key} {p : List ℕ} → Run (systemOf j) m zeroKey p t k → k ≡ keyOf p
+    course-key : {m t : Node} {k : Key} {p : List ℕ} → Run (plainSystem j) m zeroKey p t k → k ≡ keyOf p
     unfolding zeroKey
     course-key {p = p} r =
         let a = run-course r .cost ∙ zero-add (costOf j p) in
-        let b = run-steps (systemOf j) r ∙ zero-add (length p) in
+        let b = run-steps (plainSystem j) r ∙ zero-add (length p) in
         λ i. record { cost = a i; steps = b i }
 
     -- The end of a run is a goal exactly if its state has the goal facts and its actions meet what the residuals before them say.
@@ -118,19 +118,21 @@ module _ (j : Job) where
     )
 
     -- An allowed plan is a run from the start to a goal, and its cost and length are the key.
-    pub allowed-run : (p : List ℕ) → allowed j p ≡ true → GoalRun (systemOf j) p (keyOf p)
-    allowed-run p h =
+    pub plain-allowed-run : (p : List ℕ) → allowed j p ≡ true → GoalRun (plainSystem j) p (keyOf p)
+    plain-allowed-run p h =
         let a = (allowed-split j p) .0 h in
         let met : HoldsOn (firstNode j) p ≡ true = start-holds p ∙ a .2 in
         let l : length (firstNode j .residuals) ≡ length (j .constraints) = length-residuals (j .constraints) (closingWorld (j .start)) in
         let s : startNode j ≡ some (firstNode j) = (start-some j (firstNode j)) .1 (alive-if (firstNode j) p l met, refl) in
         let r = makes-run p (firstNode j) zeroKey l (a .0) met in
-        (firstNode j, r .0, s, subst (Run (systemOf j) (firstNode j) zeroKey p (r .0)) (course-key (r .2)) (r .2), (end-goal (run-course (r .2))) .1 (a .1, met))
+        let q = subst (Run (plainSystem j) (firstNode j) zeroKey p (r .0)) (course-key (r .2)) (r .2) in
+        (firstNode j, r .0, s, q, (end-goal (run-course (r .2))) .1 (a .1, met))
 
     -- A run from the start to a goal is an allowed plan, and its key is the plan's.
-    pub run-allowed : (p : List ℕ) (k : Key) → GoalRun (systemOf j) p k → (allowed j p ≡ true) × (k ≡ keyOf p)
-    run-allowed p k (m, t, s, r, g) =
-        let r′ : Run (systemOf j) (firstNode j) zeroKey p t k = subst (λ (n : Node). Run (systemOf j) n zeroKey p t k) (sym (((start-some j m) .0 s) .1)) r in
+    pub plain-run-allowed : (p : List ℕ) (k : Key) → GoalRun (plainSystem j) p k → (allowed j p ≡ true) × (k ≡ keyOf p)
+    plain-run-allowed p k (m, t, s, r, g) =
+        let first = sym (((start-some j m) .0 s) .1) in
+        let r′ : Run (plainSystem j) (firstNode j) zeroKey p t k = subst (λ (n : Node). Run (plainSystem j) n zeroKey p t k) first r in
         let c = run-course r′ in
         let e = (end-goal c) .0 g in
         ((allowed-split j p) .1 (c .made, e .0, sym (start-holds p) ∙ e .1), course-key r′)

@@ -10,7 +10,7 @@ use lib.Seq.{ext-getD}
 use Rattle.model.specs.logic.Truth.{World}
 use Rattle.model.specs.job.Job.{Job}
 use Rattle.model.specs.search.Node.{Node, meetAll}
-use Rattle.model.specs.search.JobSystem.{startHints, carryHints, HintSetting, hintTrueAt, Tables, systemOf}
+use Rattle.model.specs.search.JobSystem.{startHints, carryHints, HintSetting, hintTrueAt, Tables, plainSystem}
 use Rattle.model.proofs.bits.Bits.{bits-ext}
 use Rattle.model.proofs.exploration.Laws.{Laws}
 use Rattle.model.proofs.job.NodeLaws.{node-eq, node-same}
@@ -42,8 +42,8 @@ module _ (j : Job) where
   tables-ext g h s t e =
       ext-getD 0 g h (s .0 ∙ sym (t .0)) (λ i l. bits-ext 64 (getD g i 0) (getD h i 0) (s .1 i) (t .1 i) (λ k b. e (record { hint = i; parts = k })))
 
-  pub job-laws : Laws (systemOf j)
-  job-laws = record {
+  pub plain-laws : Laws (plainSystem j)
+  plain-laws = record {
     same-eq = node-eq;
     same-refl = node-same;
     meet-true = meet-true;

@@ -73,6 +73,11 @@ module _ (a : Action) where
     λ h. (and-both (within (a .pre) s) (apart (a .forbidden) s)) .1 ((within-facts _ s) .1 (h .0), (apart-facts _ s) .1 (h .1)),
   )
 
+  -- Where an action is applicable, the facts that it needs are true.
+  pub applicable-needs : (s : ℕ) → applicable a s ≡ true → within (a .pre) s ≡ true
+  unfolding applicable
+  applicable-needs s h = (and-both (within (a .pre) s) (apart (a .forbidden) s)) .0 h .0
+
   -- An action that forbids a fact which it needs is never applicable.
   pub never-applicable : (s i : ℕ) → bit (a .pre) i ≡ true → bit (a .forbidden) i ≡ true → applicable a s ≡ false
   never-applicable s i n f = go (applicable a s) refl

@@ -11,6 +11,8 @@ use Rattle.model.specs.task.State.{within, applicable, after}
 use Rattle.model.specs.exploration.System.{System}
 use Rattle.model.specs.exploration.Equations.{Answer}
 use Rattle.model.specs.exploration.Explore.{reached, solve}
+use Rattle.model.specs.exploration.Guided.{kept, guided}
+use Rattle.model.specs.search.Estimate.{estimateOf}
 use Rattle.model.specs.search.Node.{Node, nodeWords, residuals, progressedAll, closingAll, someDead, meetAll, sameNode}
 
 -- a node, unless a constraint is dead: "but a pair with a dead rule remainder is not reached"
@@ -65,8 +67,9 @@ Tables j h = (length h ≡ length (j .hints)) × ((i : ℕ) → getD h i 0 < 2 ^
 unfoldable pub mostNodes : ℕ
 mostNodes = 2 ^ (64 * nodeWords)
 
-abbrev pub systemOf : Job → System
-systemOf j = record {
+-- document 01's pairs and steps, with nothing estimated
+abbrev pub plainSystem : Job → System
+plainSystem j = record {
   Node = Node;
   same = sameNode;
   start = startNode j;
@@ -86,12 +89,20 @@ systemOf j = record {
   bound = mostNodes;
 }
 
+-- the estimate of a node, which is that of its state: rules and hints are not looked at
+abbrev pub nodeEstimate : Job → Node → Option ℕ
+nodeEstimate j n = estimateOf j (n .state)
+
+-- "The search now takes pairs by cost plus estimate, then steps."
+abbrev pub systemOf : Job → System
+systemOf j = guided (plainSystem j) (nodeEstimate j)
+
 -- the job's plan with its cost, or 11 or 12: "The job's plan is the answer's path as just defined"
 unfoldable pub solveJob : Job → Answer
-unfolding solve sameNode startNode actionOf nextNode isGoal startHints carryHints meetAll someDead mostNodes
+unfolding solve kept sameNode startNode actionOf nextNode isGoal estimateOf startHints carryHints meetAll someDead mostNodes
 solveJob j = solve (systemOf j)
 
 -- the number of nodes reached
 unfoldable pub reachedCount : Job → ℕ
-unfolding reached sameNode startNode actionOf nextNode isGoal startHints carryHints meetAll someDead mostNodes
+unfolding reached kept sameNode startNode actionOf nextNode isGoal estimateOf startHints carryHints meetAll someDead mostNodes
 reachedCount j = length (reached (systemOf j))

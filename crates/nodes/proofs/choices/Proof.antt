@@ -5,9 +5,8 @@ use native.Mathlib.Omega.{arith}
 use lib.ListN.{getD}
 use borrow.Author.Needs.{needs}
 use Rattle.model.specs.job.Layout.{jobOf}
-use Rattle.job.proofs.Accepted.{accepted-laid}
+use Rattle.job.proofs.Accepted.{accepted-laid, length-actions}
 use Rattle.nodes.specs.Meaning.{nodeIs}
-use Rattle.nodes.proofs.Fields.{length-actions}
 use Rattle.nodes.proofs.ChoiceLaws.{setFrom, set-of, set-none, set-lt, set-eight, set-whole}
 use Rattle.nodes.proofs.choices.Statement.{statement}
 use Rattle.nodes.proofs.choices.Tie as tie

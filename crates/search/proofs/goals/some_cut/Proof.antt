@@ -6,7 +6,7 @@ use native.Mathlib.Omega.{arith}
 use lib.ListN.{drop}
 use borrow.Author.Needs.{needs}
 use Rattle.model.specs.search.Query.{query}
-use Rattle.dijkstra.specs.Search.{someCutIn}
+use Rattle.astar.specs.Search.{someCutIn}
 use Rattle.table.proofs.LookupLaws.{length-first, first-at}
 use Rattle.paths.specs.Chain.{held}
 use Rattle.held.specs.Held.{sys, heldIs, heldIn}

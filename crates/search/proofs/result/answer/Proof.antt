@@ -2,7 +2,7 @@
 use borrow.Author.Needs.{needs}
 use Rattle.model.specs.calls.Search.{slotsIn}
 use Rattle.model.specs.search.Query.{query}
-use Rattle.dijkstra.specs.Search.{searchIn}
+use Rattle.astar.specs.Search.{searchIn}
 use Rattle.held.specs.Held.{sys}
 use Rattle.search.specs.declared.Ended.the-variants.{Goal}
 use Rattle.search.specs.Outcome.{EndsAs}

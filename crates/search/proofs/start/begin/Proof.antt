@@ -24,8 +24,8 @@ returns c =
     let g = judged x in
     let h = hinted g in
     let s = start h in (
-      begun (query (s .args .job .now)) (s .args .t .now) (x .store .last .0) (s .args .node) _ _ (s .pre .1) (h .start-hints .ensures) (g .is-goal .ensures .0)
-          (x .store .ensures) (s .pre .2),
+      begun (query (s .args .job .now)) (s .args .t .now) (x .store .last .0) (s .args .node) _ _ _ (s .pre .1) (s .pre .2) (h .start-hints .ensures)
+          (g .is-goal .ensures .0) (x .store .ensures) (s .pre .3),
       g .is-goal .ensures .1,
     )
 

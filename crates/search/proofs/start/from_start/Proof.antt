@@ -19,7 +19,7 @@ began c = c .before .before .before .before .before .before
 begin-requires : tie.Need-begin-requires
 begin-requires c κs =
     let s = start c in
-    (s .pre .0 .accepted, s .pre .0 .clean, omega (arith, s .pre .0 .some-place, s .pre .0 .room), s .pre .1)
+    (s .pre .0 .accepted, s .pre .0 .clean, s .pre .0 .estimated, omega (arith, s .pre .0 .some-place, s .pre .0 .room), s .pre .1)
 
 run-requires : tie.Need-run-requires
 run-requires c κs =

@@ -6,7 +6,7 @@ use native.Mathlib.Omega.{arith}
 use lib.ListN.{length}
 use borrow.Author.Needs.{needs}
 use Rattle.model.specs.search.Query.{Query, query}
-use Rattle.dijkstra.specs.Search.{turns}
+use Rattle.astar.specs.Search.{turns}
 use Rattle.held.specs.Held.{sys, heldIn}
 use Rattle.held.specs.Running.{Idle}
 use Rattle.progression.specs.Workspace.{Workspace}

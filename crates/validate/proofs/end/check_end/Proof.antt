@@ -1,5 +1,5 @@
 -- `check_end` checks the goal, and after it the constraints.
-use Rattle.job.proofs.Accepted.{accepted-laid}
+use Rattle.job.proofs.Accepted.{accepted-laid, length-constraints}
 use mathlib.Core.Path.{_≡_, ap, _∙_}
 use Prim.Native.Nat.{ℕ}
 use mathlib.Core.Bool.{Bool}
@@ -9,7 +9,6 @@ use Rattle.model.specs.task.State.{within}
 use Rattle.job.proofs.Bounds.{head-there}
 use Rattle.job.proofs.TurnLaws.{refused, fine, after}
 use Rattle.validate.specs.Walk.{endVerdict}
-use Rattle.nodes.proofs.Fields.{length-constraints}
 use borrow.Author.Needs.{needs}
 use Rattle.validate.proofs.end.check_end.Statement.{statement}
 use Rattle.validate.proofs.end.check_end.Tie as tie

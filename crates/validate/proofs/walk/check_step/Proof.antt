@@ -1,10 +1,9 @@
 -- `check_step` refuses a step that is no action of the job, and after that one that is not applicable.
 use native.Mathlib.Omega.{arith}
-use Rattle.job.proofs.Accepted.{accepted-laid}
+use Rattle.job.proofs.Accepted.{accepted-laid, length-actions}
 use lib.ListN.{length}
 use Rattle.model.specs.job.Layout.{jobOf}
 use Rattle.task.specs.Meaning.{actionIs}
-use Rattle.nodes.proofs.Fields.{length-actions}
 use Rattle.validate.proofs.Verdicts.{step-unknown, step-judged}
 use borrow.Author.Needs.{needs}
 use Rattle.validate.proofs.walk.check_step.Statement.{statement}

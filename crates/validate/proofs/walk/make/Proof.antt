@@ -1,10 +1,9 @@
 -- `make` adds the cost, and carries facts and residuals one world on.
 use native.Mathlib.Omega.{arith}
-use Rattle.job.proofs.Accepted.{accepted-laid}
+use Rattle.job.proofs.Accepted.{accepted-laid, length-constraints, length-hints}
 use mathlib.Core.Path.{sym}
 use Rattle.model.specs.job.Layout.{jobOf}
 use Rattle.task.specs.Meaning.{actionIs}
-use Rattle.nodes.proofs.Fields.{length-constraints, length-hints}
 use Rattle.validate.proofs.Walks.{step-made}
 use borrow.Author.Needs.{needs}
 use Rattle.validate.proofs.walk.make.Statement.{statement}
