@@ -1,5 +1,6 @@
 /* Card 3 from C: the truth of each fact code of a rule. Rules have fact codes at every place where one can stand, and all facts are true but one, in
- * the first world, in a later one and in the closing one. Expected numbers are written from document 01's meaning of a rule. */
+ * the first world and, where a next before the rule leaves it within 128 bytes, in a later one and in the closing one. Expected numbers are written from
+ * document 01's meaning of a rule. */
 #include "expect.h"
 
 enum { STEPS = 64, TASK_BYTES = TASK + STEPS * OLD_STEP, AT = 12 };

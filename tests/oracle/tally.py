@@ -33,6 +33,7 @@ FLOORS = {
         "place over 255": 4, "task of another length": 20, "high bit in start": 8, "high bit in goal": 5, "high bit in needed": 5,
         "high bit in added": 5, "high bit in deleted": 5, "high bit in forbidden": 5, "high bit in the next set, too": 7,
         "high bit in a later set, too": 7, "no high bit but V": 12},
+    # enumerated plans of four steps or more come in few jobs, with two searches each: seeds came to 3 to 13 in a thousand
     "calls with": {
         "10 where an answer exists": 160, "over 64 slots": 12, "as many slots as pairs": 150, "one slot fewer": 90,
         "slots for the pairs with an estimate alone": 65, "no slot and no pair": 30,
