@@ -30,7 +30,7 @@ MOST_PAIRS = 500    # jobs that reach more, with estimates or without, are left 
 MEMO = 4096
 
 # how often each kind of job is made, and by which change a job is made wrong
-KINDS = {generate.small_job: 16, richer.richer_job: 43, richer.wide_job: 3, richer.large_job: 5, richer.either_form_job: 2,
+KINDS = {generate.small_job: 16, richer.richer_job: 43, richer.wide_job: 3, richer.large_job: 5, richer.dense_job: 5, richer.either_form_job: 2,
          estimated.estimated_job: 29, estimated.chain_job: 2}
 WRONG = {generate.damaged: 15, generate.other_length: 4, generate.high_bits: 6}
 
@@ -89,6 +89,7 @@ class Comparison:
             self.tally.count("jobs with the operator", *{f[0] for r in job.rules + job.hints for f in within(r.formula)})
             self.tally.count("jobs with", *answer.events)
             self.tally.count_true("jobs with", events.of_accepted(data, job, answer))
+            self.tally.count_true("jobs with", events.of_fact_codes(data, job, answer, MOST_PAIRS))
             self.tally.count_true("jobs with", events.of_forbidden(job, answer, MOST_PAIRS))
             self.tally.count_true("jobs with", events.of_estimates(job, answer, MOST_PAIRS))
         lists = self.enumeration(data, job) if job else None

@@ -2,7 +2,8 @@
 
 import pack
 from estimate import NONE, Estimates, fact_costs
-from formulas import MOST_BYTES, MOST_PARTS
+from formulas import CODE, MOST_BYTES, MOST_PARTS, within
+from jobs import Job
 from pairs import Answer, TooMany
 
 
@@ -61,6 +62,44 @@ def of_accepted(data, job, answer):
     }
 
 
+def of_fact_codes(data, job, answer, most):
+    """Events of the fact codes in a job's rules and hints. That each of them counts is seen from the answers of planners that take the truth of a fact code
+    for that of the one before it in its formula, or a step code for a fact code."""
+    formulas = [sorted(within(r.formula), key=lambda f: f[-1]) for r in job.rules + job.hints]
+    codes = {kind: [[f[-1] for f in found if f[0] == kind] for found in formulas] for kind in ("fact", "step")}
+    one_off = [{at + 1: data[after + 1] for at, after in zip(places, places[1:] + places[:1])} for places in codes["fact"]]
+    as_fact = {at: CODE["fact"] for places in codes["step"] for at in places if data[at + 1] < data[0]}
+    return {
+        "rule of 20 fact codes": any(len(places) >= 20 for places in codes["fact"]),
+        "rule of 30 fact codes": any(len(places) >= 30 for places in codes["fact"]),
+        "a fact at two places of a rule": any(len(places) > len({data[at + 1] for at in places}) for places in codes["fact"]),
+        "a number that is a code": any(data[at + 1] in CODE.values() for kind in codes for places in codes[kind] for at in places),
+        "truths one place off decide": decides(data, one_off, answer, most),
+        "truths one place off decide, 15 fact codes": decides(data, [changed for changed in one_off if len(changed) >= 15], answer, most),
+        "a step read as a fact decides": decides(data, [as_fact], answer, most),
+    }
+
+
+def decides(data, changes, answer, most):
+    """Whether other bytes in the formulas give another answer. A change is the bytes at some offsets."""
+    changed = bytearray(data)
+    for change in changes:
+        for at, byte in change.items():
+            changed[at] = byte
+    if changed == data:
+        return False
+    try:
+        # the estimates do not look at formulas, so that they are the same
+        other = Answer(Job(bytes(changed)), answer.estimates, most)
+    except TooMany:
+        return True
+    return different(answer, other)
+
+
+def different(answer, other):
+    return any(getattr(answer, part) != getattr(other, part) for part in ("number", "key", "path", "reached"))
+
+
 def of_forbidden(job, answer, most):
     """Events that show that a job's forbidden sets matter: how its answer differs from the one with these sets empty. More pairs than `most` that are
     then reached are a difference, too."""
@@ -73,7 +112,7 @@ def of_forbidden(job, answer, most):
         return {"forbidden facts decide": True}
     planned = answer.number == other.number == 0
     return {
-        "forbidden facts decide": any(getattr(answer, part) != getattr(other, part) for part in ("number", "key", "path", "reached")),
+        "forbidden facts decide": different(answer, other),
         "another plan by forbidden facts": planned and answer.path != other.path,
         "a dearer plan by forbidden facts": planned and answer.key[0] > other.key[0],
         "no plan by forbidden facts": other.number == 0 and answer.number != 0,

@@ -4,7 +4,7 @@ in the new form, with forbidden facts that come true on the way. Now and then a 
 import struct
 
 import pack
-from formulas import read_section
+from formulas import MOST_BYTES, read_section
 from generate import atoms, sized, walk
 from jobs import Job
 from pairs import Answer
@@ -46,6 +46,24 @@ def lengthened(rng, atom, length):
         return [0x12, *found, *sized(rng, atom, rest - 1, 4)]
     idle = sized(rng, atom, rest - 3, 4)
     return rng.choice([[0x11, *found, 0x12, 0x01, *idle], [0x12, *found, 0x11, 0x00, *idle], [0x12, 0x11, *idle, 0x00, *found]])
+
+
+def joined(rng, code, operands):
+    """The operands under codes of one operator of two operands: all codes stand first, or each before its first operand."""
+    if rng.random() < 0.5:
+        return [code] * (len(operands) - 1) + [b for x in operands for b in x]
+    return [b for x in operands[:-1] for b in (code, *x)] + operands[-1]
+
+
+def on_states(rng, facts, states):
+    """Never one of these states, or eventually one: as many of them as there is room for, each by the truth of every fact, in any order."""
+    def named(state):
+        return joined(rng, 0x11, [[0x03, f] if f in state else [0x10, 0x03, f] for f in rng.sample(range(facts), facts)])
+    found = []
+    for operand in map(named, states):
+        if 2 + sum(map(len, found)) + len(operand) + len(found) <= MOST_BYTES:
+            found.append(operand)
+    return rng.choice([[0x22, 0x10], [0x22, 0x10], [0x21]]) + joined(rng, 0x12, found)
 
 
 # ---- steps
@@ -146,6 +164,19 @@ def wide_job(rng):
     atom = atoms(rng, range(7), range(len(steps)))
     formulas = lambda: [shape(rng, atom) for _ in range(rng.choice([0, 0, 1]))]
     return pack.job(7, 0, rng.choice([127, 127, 63]), steps, formulas(), formulas())
+
+
+def dense_job(rng):
+    """3 to 8 facts, and as many steps or one or two more. Each rule or hint says of some states that are met on the way that they never come, or that one of
+    them does, and names every fact for each."""
+    active = range(rng.randint(3, 8))
+    new_form = rng.random() < 0.5
+    steps = [packed(*random_step(rng, active, i, False, new_form), rng.randint(0, 3)) for i in range(len(active) + rng.randint(0, 2))]
+    plain = Job(pack.job(len(active), 0, 0, steps))
+    met = sorted({tuple(sorted(facts)) for _ in range(4) for facts, _ in plain.worlds(walk(rng, plain, 6, new=True))})
+    few = lambda: rng.choice([0, 1, 1, 2])
+    formula = lambda: on_states(rng, len(active), rng.sample(met, min(len(met), rng.randint(1, 5))))
+    return completed(rng, len(active), 0, steps, formula, 1 + few(), few())
 
 
 def large_job(rng):

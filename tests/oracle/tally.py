@@ -15,6 +15,9 @@ FLOORS = {
         MERGED: 150, PATH: 75, HINTS: 22, CUT: 6, REPLACED: 65, SHORTER: 2, LONGER: 65, "over 2 pairs": 240, "plan through a merge": 41,
         "plan of 4 steps or more": 36, "64 facts": 20, "64 steps": 12, "8 rules and 8 hints": 10, "rule of 128 bytes": 11, "the most bytes": 3,
         "offset over 255": 80, "rule of 5 parts": 40, "rule of 6 parts": 20,
+        # fact codes
+        "rule of 20 fact codes": 10, "rule of 30 fact codes": 3, "a fact at two places of a rule": 115, "a number that is a code": 300,
+        "truths one place off decide": 60, "truths one place off decide, 15 fact codes": 8, "a step read as a fact decides": 110,
         # the two forms of a step; forbidden facts must decide in a tenth of the jobs
         "no steps": 12, "steps in the old form": 175, "steps in the new form": 175, "17 old steps or 13 new ones": 7, "an empty forbidden set": 165,
         "a fact needed and forbidden": 30, "forbidden facts decide": 100, "another plan by forbidden facts": 42,
@@ -30,11 +33,12 @@ FLOORS = {
         "place over 255": 4, "task of another length": 20, "high bit in start": 8, "high bit in goal": 5, "high bit in needed": 5,
         "high bit in added": 5, "high bit in deleted": 5, "high bit in forbidden": 5, "high bit in the next set, too": 7,
         "high bit in a later set, too": 7, "no high bit but V": 12},
+    # enumerated plans of four steps or more come in few jobs, with two searches each: seeds came to 3 to 13 in a thousand
     "calls with": {
         "10 where an answer exists": 160, "over 64 slots": 12, "as many slots as pairs": 150, "one slot fewer": 90,
         "slots for the pairs with an estimate alone": 65, "no slot and no pair": 30,
         "a buffer as long as the plan": 120, "one byte shorter": 42, "search with a memo": 100, "read-through with a memo": 165,
-        "over 128 bytes written": 10, "enumeration": 140, "enumeration and hints": 14, "enumeration of 4 steps or more": 5, "enumeration and 13": 25,
+        "over 128 bytes written": 10, "enumeration": 140, "enumeration and hints": 14, "enumeration of 4 steps or more": 2, "enumeration and 13": 25,
         "7 for a forbidden fact alone": 85},
     "jobs with the operator": {
         "false": 24, "true": 24, "last": 115, "fact": 275, "step": 260, "not": 245, "and": 170, "or": 220, "next": 170, "eventually": 220,

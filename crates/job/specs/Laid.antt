@@ -3,7 +3,7 @@ use mathlib.Core.Path.{_≡_}
 use Prim.Native.Nat.{ℕ, _+_, _*_, _≤_, _<_}
 use mathlib.Core.List.{List}
 use lib.ListN.{length}
-use Rattle.model.specs.logic.Parts.{mostParts, partsOf}
+use Rattle.model.specs.logic.Parts.{mostBytes, mostParts, partsOf}
 use Rattle.model.specs.logic.Reading.{formula, parsed}
 use Rattle.model.specs.job.Layout.{taskHead, actionBytes, pairCount, pairOffset, pairLength, sectionBytes, taskBytes, setCount, actionOffset}
 use Rattle.model.specs.job.Layout.{formulaIn, formulaAt}
@@ -27,8 +27,8 @@ pub record Laid (bytes : List ℕ) : Type 0 where
   pub section : (i : ℕ) → i < pairCount bytes → pairOffset bytes i + pairLength bytes i ≤ length bytes
   -- the task section has as many bytes as its actions fill
   pub task : pairLength bytes 0 ≡ taskBytes bytes (setCount bytes)
-  -- a formula has at most 128 bytes
-  pub few-bytes : (i : ℕ) → 1 ≤ i → i < pairCount bytes → pairLength bytes i ≤ 128
+  -- a formula has no more bytes than it may
+  pub few-bytes : (i : ℕ) → 1 ≤ i → i < pairCount bytes → pairLength bytes i ≤ mostBytes
 
 -- Section i holds a formula: it is read to the section's end, also where all 64 facts and actions may occur, and has no more carried parts than it may.
 pub record Formulated (bytes : List ℕ) (i : ℕ) : Type 0 where

@@ -2,6 +2,7 @@
 pub mod TruthLaws
 pub mod SatLaws
 pub mod PartsLaws
+pub mod EachPart
 pub mod ProgressionLaws
 pub mod ResidualLaws
 pub mod OwnPartsLaws

@@ -3,7 +3,7 @@ use mathlib.Core.Path.{_≡_, ap, subst}
 use mathlib.Core.Bool.{true, not}
 use mathlib.Core.List.{List}
 use Prim.Native.Nat.{ℕ, _+_, _-_, _≤_, _<_}
-use lib.ListN.{take, drop}
+use lib.ListN.{length, take, drop, length-take, length-drop}
 use Rattle.model.specs.declared.Verdict.the-variants.{Fine}
 use Rattle.model.specs.logic.Parts.{mostParts, count, partsOf}
 use Rattle.model.specs.logic.Reading.{Parsed, parsed}
@@ -26,9 +26,12 @@ module _ (bytes : List ℕ) (h : jobVerdict bytes ≡ Fine) (i : ℕ) (m : 1 ≤
   few-parts = rw length-parts at (accepted-formula bytes h i m l .few-parts)
 
   module _ {o n : ℕ} (p : o ≡ pairOffset bytes i) (q : n ≡ pairLength bytes i) where
+    lent-length : n ≡ length (take (o + n - o) (drop o bytes))
+    lent-length = simp (length-take, length-drop) (omega (arith, accepted-laid bytes h .section i l))
+
     -- The evaluator can take it.
-    pub lent-ready : Ready (parsed 64 64 (take (o + n - o) (drop o bytes)) 0)
-    lent-ready = rw (accepted-lent bytes h i m l p q) few-parts
+    pub lent-ready : Ready (take (o + n - o) (drop o bytes)) (parsed 64 64 (take (o + n - o) (drop o bytes)) 0)
+    lent-ready = rw (accepted-lent bytes h i m l p q) (few-parts, lent-length, omega (arith, accepted-laid bytes h .few-bytes i m l))
 
     -- What the evaluator answers is of the job's formula.
     pub lent-residual : (w : World) → residualOf (parsed 64 64 (take (o + n - o) (drop o bytes)) 0) w ≡ residual mostParts (formulaAt bytes i) w

@@ -5,4 +5,8 @@ pub mod Numbers
 pub mod Walks
 pub mod Upwards
 pub mod Settings
+pub mod Told
+pub mod Passing
+pub mod ByTruths
 pub mod Answers
+pub mod Examples

@@ -17,10 +17,11 @@ use Rattle.model.specs.declared.Code.{Code}
 use Rattle.model.specs.declared.Code.the-variants.{Leaf, Fact, Action, One, Two, Unknown}
 use Rattle.model.specs.logic.Formula.{Formula, constant, fact, action, unary, binary, choose}
 use Rattle.model.specs.logic.Reading.{Parsed, formula, wrong, then, andThen, numbered, operands, parsed}
-use Rattle.model.specs.logic.Parts.{mostParts, count, temporal, temporal1, temporal2}
+use Rattle.model.specs.logic.Parts.{mostBytes, mostParts, count, temporal, temporal1, temporal2}
 use Rattle.model.proofs.logic.ReadingLaws.{at-the-end}
 use Rattle.formula.specs.Extent.{carries, isNext}
-use Rattle.residual.specs.Walk.{starts, after, behind, Few}
+use Rattle.residual.specs.Node.{after}
+use Rattle.residual.specs.Walk.{starts, behind, Few}
 
 -- ---- the numbers rise: at a formula's own, inside it, and after it
 pub starts-le : (under carried : Bool) (n : ℕ) → n ≤ starts under carried n
@@ -87,6 +88,11 @@ behind-count (binary Until φ ψ) n = omega (arith, behind-count ψ (behind φ f
 behind-count (binary Release φ ψ) n = omega (arith, behind-count ψ (behind φ false (suc n)), behind-count φ (suc n))
 
 -- ---- what is asked of the operands
+
+-- a formula that is read ends after its position
+abbrev pub Grows : (ℕ → Parsed) → Type 0
+Grows rec = (at : ℕ) (φ : Formula) (n : ℕ) → rec at ≡ formula φ n → at < n
+
 module _ (under : Bool) (i : ℕ) where
   -- of one operand
   pub one-few : (o : Unary) (p : Parsed) → Few (then (unary o) p) under i → Few p (isNext o) (after (temporal1 o) (starts under (temporal1 o) i))
@@ -95,19 +101,21 @@ module _ (under : Bool) (i : ℕ) where
   one-few o (wrong p) h = h
 
   -- of the first of two operands
-  pub two-few : (o : Binary) (rec : ℕ → Parsed) (p : Parsed) → Few (andThen p (λ φ m. then (binary o φ) (rec m))) under i
+  pub two-few : (o : Binary) (rec : ℕ → Parsed) → Grows rec → (p : Parsed) → Few (andThen p (λ φ m. then (binary o φ) (rec m))) under i
       → Few p false (after (temporal2 o) (starts under (temporal2 o) i))
   unfolding then andThen behind
-  two-few o rec (wrong p) h = h
-  two-few o rec (formula φ m) h = go (rec m) h
+  two-few o rec g (wrong p) h = h
+  two-few o rec g (formula φ m) h = go (rec m) refl h
     where
-      go : (q : Parsed) → Few (then (binary o φ) q) under i → behind φ false (after (temporal2 o) (starts under (temporal2 o) i)) ≤ mostParts
-      go (formula ψ n) h = omega (arith, behind-le ψ false (behind φ false (after (temporal2 o) (starts under (temporal2 o) i))))
-      go (wrong q) h = absurd h
+      go : (q : Parsed) → rec m ≡ q → Few (then (binary o φ) q) under i
+          → (behind φ false (after (temporal2 o) (starts under (temporal2 o) i)) ≤ mostParts) × (m ≤ mostBytes)
+      go (formula ψ n) e h =
+          (omega (arith, h .0, behind-le ψ false (behind φ false (after (temporal2 o) (starts under (temporal2 o) i)))), omega (arith, h .1, g m ψ n e))
+      go (wrong q) e h = absurd h
 
 -- what is asked of a number holds of those before
 few-le : (p : Parsed) (u : Bool) (n : ℕ) → Few p u n → n ≤ mostParts
-few-le (formula φ m) u n h = omega (arith, behind-le φ u n)
+few-le (formula φ m) u n h = omega (arith, h .0, behind-le φ u n)
 few-le (wrong p) u n h = absurd h
 
 -- ---- what is asked at a position
@@ -137,17 +145,18 @@ module _ (v a : ℕ) (s : List ℕ) (under : Bool) (i : ℕ) where
   -- a fact and an action have no number inside
   numbered-le : (f : ℕ → Formula) → ((n : ℕ) → behind (f n) under i ≡ starts under false i) → (b at : ℕ)
       → Few (numbered v a s f b at) under i → starts under false i ≤ mostParts
-  numbered-le f e b at h = omega (arith, e (getD s at 0), rw (few-number f b at h .2) at h)
+  numbered-le f e b at h = omega (arith, e (getD s at 0), (rw (few-number f b at h .2) at h) .0)
 
   -- the first number inside a formula is at most the most parts that there may be
-  pub inner-le : (c : Code) (rec : ℕ → Parsed) (at : ℕ) → Few (operands v a s c rec at) under i → after (carries c) (starts under (carries c) i) ≤ mostParts
+  pub inner-le : (c : Code) (rec : ℕ → Parsed) → Grows rec → (at : ℕ) → Few (operands v a s c rec at) under i
+      → after (carries c) (starts under (carries c) i) ≤ mostParts
   unfolding operands behind
-  inner-le (Leaf c) rec at h = h
-  inner-le Fact rec at h = numbered-le fact (λ n. refl) v (at + 1) h
-  inner-le Action rec at h = numbered-le action (λ n. refl) a (at + 1) h
-  inner-le (One o) rec at h = few-le (rec (at + 1)) (isNext o) _ (one-few under i o (rec (at + 1)) h)
-  inner-le (Two o) rec at h = few-le (rec (at + 1)) false _ (two-few under i o rec (rec (at + 1)) h)
-  inner-le Unknown rec at h = absurd h
+  inner-le (Leaf c) rec g at h = h .0
+  inner-le Fact rec g at h = numbered-le fact (λ n. refl) v (at + 1) h
+  inner-le Action rec g at h = numbered-le action (λ n. refl) a (at + 1) h
+  inner-le (One o) rec g at h = few-le (rec (at + 1)) (isNext o) _ (one-few under i o (rec (at + 1)) h)
+  inner-le (Two o) rec g at h = few-le (rec (at + 1)) false _ (two-few under i o rec g (rec (at + 1)) h)
+  inner-le Unknown rec g at h = absurd h
 
 -- a formula that is a part has the number of an unknown, if those inside have
 pub part-below : (under carried : Bool) (i : ℕ) → after carried (starts under carried i) ≤ mostParts → under || carried ≡ true → i < mostParts
@@ -155,6 +164,11 @@ part-below true true i h e = omega arith
 part-below true false i h e = omega arith
 part-below false true i h e = omega arith
 part-below false false i h e = let z : _≡_ {A = ℕ} 0 1 = cc in omega arith
+
+-- the same of a formula that is one only as the operand of a next
+pub under-below : (under : Bool) (i : ℕ) → starts under false i ≤ mostParts → under ≡ true → i < mostParts
+under-below true i h e = omega arith
+under-below false i h e = let z : _≡_ {A = ℕ} 0 1 = cc in omega arith
 
 -- the numbers from the start of a formula on are those of unknowns, if those inside are
 pub first-le : (under carried : Bool) (i : ℕ) → after carried (starts under carried i) ≤ mostParts → i ≤ mostParts

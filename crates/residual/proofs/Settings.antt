@@ -13,20 +13,20 @@ use Rattle.model.specs.declared.Binary.the-variants.{And, Or, Until, Release}
 use Rattle.model.specs.Bits.{bit, bitsOf}
 use Rattle.model.specs.logic.Formula.{Formula, constant, fact, action, unary, binary, choose}
 use Rattle.model.specs.logic.Parts.{mostParts, size, count, temporal, Part, parts, partsOf}
-use Rattle.model.specs.logic.Truth.{World}
 use Rattle.model.proofs.bits.Bits.{ofBits-lt, bit-ofBits, bits-ext, bit-zero}
 use Rattle.model.proofs.bits.BitsOf.{bitsOf-lt, bitsOf-head, bitsOf-tail}
 use Rattle.model.proofs.logic.PartsLaws.{length-parts}
 use Rattle.bits.specs.Tables.{settingAt}
+use Rattle.residual.specs.Facts.{Valuation}
 use Rattle.residual.specs.Node.{truth, tableOf}
 use Rattle.residual.specs.Walk.{behind, filled}
 use Rattle.residual.proofs.Nodes.{bit-table}
 use Rattle.residual.proofs.Numbers.{behind-count}
 use Rattle.residual.proofs.Upwards.{zeros-at}
 
-module _ (closing : Bool) (w : World) where
+module _ (closing : Bool) (v : Valuation) where
   abbrev tableAt : Part → ℕ
-  tableAt p = tableOf closing w (p .shape) (p .first)
+  tableAt p = tableOf closing v (p .shape) (p .position) (p .first)
 
   -- the tables of a list of parts, stored from n on
   unfoldable stored : List ℕ → ℕ → List Part → List ℕ
@@ -52,21 +52,21 @@ module _ (closing : Bool) (w : World) where
   -- ---- the walk stores the parts' tables
 
   -- the operand of a next is stored, if it is not stored anyway
-  filled-under : (φ : Formula) (n : ℕ) (t : List ℕ)
-      → filled closing w φ true n t
-      ≡ choose (temporal φ) (filled closing w φ false n t) (set (filled closing w φ false (suc n) t) n (tableOf closing w φ (suc n)))
+  filled-under : (φ : Formula) (at n : ℕ) (t : List ℕ)
+      → filled closing v φ at true n t
+      ≡ choose (temporal φ) (filled closing v φ at false n t) (set (filled closing v φ at false (suc n) t) n (tableOf closing v φ at (suc n)))
   unfolding filled temporal
-  filled-under (constant c) n t = refl
-  filled-under (fact i) n t = refl
-  filled-under (action a) n t = refl
-  filled-under (unary Not φ) n t = refl
-  filled-under (unary Next φ) n t = refl
-  filled-under (unary Eventually φ) n t = refl
-  filled-under (unary Always φ) n t = refl
-  filled-under (binary And φ ψ) n t = refl
-  filled-under (binary Or φ ψ) n t = refl
-  filled-under (binary Until φ ψ) n t = refl
-  filled-under (binary Release φ ψ) n t = refl
+  filled-under (constant c) at n t = refl
+  filled-under (fact i) at n t = refl
+  filled-under (action a) at n t = refl
+  filled-under (unary Not φ) at n t = refl
+  filled-under (unary Next φ) at n t = refl
+  filled-under (unary Eventually φ) at n t = refl
+  filled-under (unary Always φ) at n t = refl
+  filled-under (binary And φ ψ) at n t = refl
+  filled-under (binary Or φ ψ) at n t = refl
+  filled-under (binary Until φ ψ) at n t = refl
+  filled-under (binary Release φ ψ) at n t = refl
 
   -- the operand of a next is among the parts, if it is not among them anyway
   stored-next : (b : Bool) (p : Part) (t : List ℕ) (n : ℕ) (xs ys : List Part) {x y : List ℕ} → y ≡ stored t n ys → x ≡ stored t (suc n) xs
@@ -77,25 +77,25 @@ module _ (closing : Bool) (w : World) where
 
   -- what the walk leaves of a formula are its parts' tables, wherever it stands
   abbrev FilledParts : Formula → Type 0
-  FilledParts φ = (n at : ℕ) (t : List ℕ) → filled closing w φ false n t ≡ stored t n (parts φ n at)
+  FilledParts φ = (n at : ℕ) (t : List ℕ) → filled closing v φ at false n t ≡ stored t n (parts φ n at)
 
   abbrev bothParts : Formula → Formula → ℕ → ℕ → List Part
   bothParts φ ψ n at = parts φ n at ++ parts ψ (n + count φ) (at + size φ)
 
   -- two operands' tables are stored in turn
   in-turn : (φ ψ : Formula) → FilledParts φ → FilledParts ψ → (n at : ℕ) (t : List ℕ)
-      → filled closing w ψ false (behind φ false n) (filled closing w φ false n t) ≡ stored t n (bothParts φ ψ n at)
+      → filled closing v ψ (at + size φ) false (behind φ false n) (filled closing v φ at false n t) ≡ stored t n (bothParts φ ψ n at)
   in-turn φ ψ e f n at t =
       let qs : List Part = parts ψ (n + count φ) (at + size φ) in
-      ap (λ (m : ℕ). filled closing w ψ false m (filled closing w φ false n t)) (behind-count φ n)
-      ∙ f (n + count φ) (at + size φ) (filled closing w φ false n t)
+      ap (λ (m : ℕ). filled closing v ψ (at + size φ) false m (filled closing v φ at false n t)) (behind-count φ n)
+      ∙ f (n + count φ) (at + size φ) (filled closing v φ at false n t)
       ∙ ap (λ (l : List ℕ). stored l (n + count φ) qs) (e n at t)
       ∙ ap (λ (m : ℕ). stored (stored t n (parts φ n at)) (n + m) qs) (sym (length-parts φ n at))
       ∙ sym (stored-append t n (parts φ n at) qs)
 
   -- a formula that begins with 21 to 24 is stored after the parts inside it
   part-last : (φ : Formula) (n at : ℕ) (t : List ℕ) (ps : List Part) {x : List ℕ} → x ≡ stored t (suc n) ps
-      → set x n (tableOf closing w φ n) ≡ stored t n (record { shape = φ; position = at; first = n } ∷ ps)
+      → set x n (tableOf closing v φ at n) ≡ stored t n (record { shape = φ; position = at; first = n } ∷ ps)
   part-last φ n at t ps e = stored-next false (record { shape = φ; position = at; first = n }) t n ps [] refl e
 
   -- that holds of every formula
@@ -106,7 +106,7 @@ module _ (closing : Bool) (w : World) where
   filled-parts (action a) n at t = refl
   filled-parts (unary Not φ) n at t = filled-parts φ n (suc at) t
   filled-parts (unary Next φ) n at t =
-      filled-under φ n t ∙ stored-next (temporal φ) _ t n _ _ (filled-parts φ n (suc at) t) (filled-parts φ (suc n) (suc at) t)
+      filled-under φ (suc at) n t ∙ stored-next (temporal φ) _ t n _ _ (filled-parts φ n (suc at) t) (filled-parts φ (suc n) (suc at) t)
   filled-parts (unary Eventually φ) n at t =
       part-last (unary Eventually φ) n at t (parts φ (suc n) (suc at)) (filled-parts φ (suc n) (suc at) t)
   filled-parts (unary Always φ) n at t = part-last (unary Always φ) n at t (parts φ (suc n) (suc at)) (filled-parts φ (suc n) (suc at) t)
@@ -129,7 +129,7 @@ module _ (closing : Bool) (w : World) where
   module _ (k : ℕ) (hk : k < 64) where
     -- a part's truth at the setting k
     abbrev truthAt : Part → Bool
-    truthAt p = truth closing w (p .shape) (p .first) (bit k)
+    truthAt p = truth closing v (p .shape) (p .position) (p .first) (bit k)
 
     -- at the setting k the entries from n on are the parts' truths, and false after the last
     stored-bits : (ps : List Part) (t : List ℕ) (n : ℕ) → n + length ps ≤ length t → ((j : ℕ) → n ≤ j → getD t j 0 ≡ 0)
@@ -140,7 +140,7 @@ module _ (closing : Bool) (w : World) where
         ap (λ (m : ℕ). bit (getD (stored (set t n (tableAt p)) (suc n) ps) m 0) k) (add-zero n)
         ∙ ap (λ (x : ℕ). bit x k)
         (stored-below (set t n (tableAt p)) (suc n) n ps (omega arith) ∙ getD-set-same t n (tableAt p) 0 (omega arith))
-        ∙ bit-table closing w (p .shape) (p .first) k hk ∙ sym (bitsOf-head truthAt p ps)
+        ∙ bit-table closing v (p .shape) (p .position) (p .first) k hk ∙ sym (bitsOf-head truthAt p ps)
     stored-bits (p ∷ ps) t n h z (suc i) =
         let e : n + suc i ≡ suc n + i = omega arith in
         ap (λ (m : ℕ). bit (getD (stored (set t n (tableAt p)) (suc n) ps) m 0) k) e
@@ -150,10 +150,10 @@ module _ (closing : Bool) (w : World) where
 
     -- the setting that the tables make at k
     pub setting-parts : (φ : Formula) → count φ ≤ mostParts
-        → settingAt mostParts (filled closing w φ false 0 (replicate mostParts 0)) k ≡ bitsOf truthAt (partsOf φ)
+        → settingAt mostParts (filled closing v φ 0 false 0 (replicate mostParts 0)) k ≡ bitsOf truthAt (partsOf φ)
     unfolding settingAt partsOf
     setting-parts φ h =
-        let f : ℕ → Bool = λ j. bit (getD (filled closing w φ false 0 (replicate mostParts 0)) j 0) k in
+        let f : ℕ → Bool = λ j. bit (getD (filled closing v φ 0 false 0 (replicate mostParts 0)) j 0) k in
         let few : length (parts φ 0 0) ≤ mostParts = omega (arith, length-parts φ 0 0) in
         bits-ext mostParts _ _ (ofBits-lt mostParts f) (lt-of-lt-of-le (bitsOf-lt truthAt (parts φ 0 0)) (pow-mono few))
         (λ i l. bit-ofBits mostParts f i l

@@ -1,15 +1,18 @@
 -- What the crate's three functions answer of a section's formula.
+use mathlib.Core.Path.{_≡_}
 use Prim.Native.Nat.{ℕ, _≤_}
 use mathlib.Core.Bool.{Bool, false}
+use mathlib.Core.List.{List}
+use lib.ListN.{length}
 use Rattle.model.specs.logic.Reading.{Parsed, formula, wrong}
-use Rattle.model.specs.logic.Parts.{mostParts, count, partsOf}
+use Rattle.model.specs.logic.Parts.{mostBytes, mostParts, count, partsOf}
 use Rattle.model.specs.logic.Truth.{World}
 use Rattle.model.specs.logic.Progression.{residual, progressed, closing}
 
--- a formula was read, and it has no more carried parts than it may
-abbrev pub Ready : Parsed → Type 0
-Ready (formula φ n) = count φ ≤ mostParts
-Ready (wrong p) = ⊥
+-- a formula was read that fills the section's bytes s, and it has no more carried parts and no more bytes than it may
+abbrev pub Ready : List ℕ → Parsed → Type 0
+Ready s (formula φ n) = (count φ ≤ mostParts) × (n ≡ length s) × (n ≤ mostBytes)
+Ready s (wrong p) = ⊥
 
 unfoldable pub residualOf : Parsed → World → ℕ
 unfolding residual

@@ -1,22 +1,28 @@
-// What a formula leaves after a world: a truth table of its carried parts, made in one pass over the formula's bytes.
+// What a formula leaves after a world: a truth table of its carried parts. One pass over the formula's bytes reads the truths of its fact codes; a
+// walk over them, which is given these truths and no state, makes the table.
 use model::Binary;
 use model::Code;
 use model::Constant;
 use model::MOST_PARTS;
 use model::Unary;
 ghost use mathlib.Core.Path.{_≡_};
-ghost use mathlib.Core.Bool.{true};
+ghost use mathlib.Core.Bool.{true, false};
 ghost use mathlib.Core.Option.{none, some};
 ghost use Prim.Native.Nat.{_+_, _<_, _≤_};
 ghost use Rattle.model.specs.logic.Parts.{mostParts};
 ghost use Rattle.model.specs.logic.Reading.{parsed};
-ghost use Rattle.residual.specs.Node.{truth0, ofNothing1, ofNothing2, aheadTable, table1, table2, worldOf};
-ghost use Rattle.residual.specs.Walk.{starts, after, put, Few, evaluated, filledBy, leaf, one, two};
+ghost use Rattle.bits.specs.Tables.{everywhere};
+ghost use Rattle.formula.specs.Extent.{carries};
+ghost use Rattle.residual.specs.Node.{truth0, ofNothing1, ofNothing2, after, aheadTable, table1, table2, valuationOf};
+ghost use Rattle.residual.specs.Walk.{starts, put, numbersOf, Few, evaluated, filledBy, leaf, one, two};
 ghost use Rattle.residual.specs.Residual.{Ready, residualOf, progressedOf, closingOf};
 
-// A world: the facts, the number of the action that was made (255 where none was), and whether it is the closing one.
+mod facts; // facts.rt: the truths of a formula's fact codes
+
+// What is known of a world: the truths of the formula's fact codes, the number of the action that was made (255 where none was), and whether it is the
+// closing one.
 struct Moment {
-    state: u64,
+    truths: u64,
     action: u8,
     closing: bool,
 }
@@ -114,6 +120,26 @@ fn inner_number(carried: bool, own: usize) -> usize
     if carried { own + 1 } else { own }
 }
 
+// How a formula counts among the parts: whether it is one, the number of its own unknown, and that of the first part inside.
+struct Numbering {
+    part: bool,
+    own: usize,
+    inner: usize,
+}
+
+fn numbers_of(code: Code, under: bool, n: usize) -> Numbering
+    requires { ⌜ n ≤ mostParts ⌝ }
+    ensures { λ r. ⌜ r ≡ numbersOf under (carries code) n ⌝ }
+{
+    let carried = formula::is_carried(code);
+    let own = own_number(under, carried, n);
+    Numbering {
+        part: formula::is_part(code, under),
+        own,
+        inner: inner_number(carried, own),
+    }
+}
+
 // A formula with no operand.
 fn with_none(truth: bool, next: usize, parts: usize) -> Value
     ensures { λ r. ⌜ r ≡ leaf truth next parts ⌝ }
@@ -160,6 +186,16 @@ fn keep(tables: &mut [u64; MOST_PARTS], part: bool, number: usize, v: Value) -> 
     v
 }
 
+// A formula with no operand, kept if it is the operand of a next.
+fn leaf(tables: &mut [u64; MOST_PARTS], truth: bool, next: usize, under: bool, n: usize) -> Value
+    requires { ⌜ starts under false n ≤ mostParts ⌝ }
+    ensures { λ r. ⌜ (r ≡ leaf truth next (starts under false n))
+        × (now (tables .exit) ≡ put under n (everywhere mostParts truth) (now (tables .entry))) ⌝ }
+{
+    let v = with_none(truth, next, own_number(under, false, n));
+    keep(tables, under, n, v)
+}
+
 // The formula at a position, and the tables of its carried parts; `under` says that it is the operand of a next, n numbers the first part.
 fn evaluate(
     s: &[u8],
@@ -170,36 +206,31 @@ fn evaluate(
     tables: &mut [u64; MOST_PARTS],
 ) -> Value
     requires { ⌜ Few (parsed 64 64 (now s) at) under n ⌝ }
-    ensures { λ r. ⌜ (r ≡ evaluated (m .closing) (worldOf m) (parsed 64 64 (now (s .entry)) at) under n)
-        × (now (tables .exit) ≡ filledBy (m .closing) (worldOf m) (parsed 64 64 (now (s .entry)) at) under n (now (tables .entry))) ⌝ }
+    ensures { λ r. ⌜ (r ≡ evaluated (m .closing) (valuationOf m) (parsed 64 64 (now (s .entry)) at) at under n)
+        × (now (tables .exit) ≡ filledBy (m .closing) (valuationOf m) (parsed 64 64 (now (s .entry)) at) at under n (now (tables .entry))) ⌝ }
 {
     let code = formula::code_of(s[at]);
-    let carried = formula::is_carried(code);
-    let part = formula::is_part(code, under);
-    let own = own_number(under, carried, n);
-    let inner = inner_number(carried, own);
     let b = at + 1;
     match code {
-        Code::Leaf(c) => {
-            let v = with_none(truth_of(c, m.closing), b, inner);
-            keep(tables, part, n, v)
-        }
-        Code::Fact => {
-            let v = with_none(bits::bit_at(m.state, s[b]), b + 1, inner);
-            keep(tables, part, n, v)
-        }
-        Code::Action => {
-            let v = with_none(m.action == s[b], b + 1, inner);
-            keep(tables, part, n, v)
-        }
+        Code::Leaf(c) => leaf(tables, truth_of(c, m.closing), b, under, n),
+        Code::Fact => leaf(
+            tables,
+            bits::bit_at(m.truths, (at / 2) as u8),
+            b + 1,
+            under,
+            n,
+        ),
+        Code::Action => leaf(tables, m.action == s[b], b + 1, under, n),
         Code::One(o) => {
-            let p = evaluate(s, b, m, formula::is_next(o), inner, tables);
-            keep(tables, part, n, with_one(o, p, own, m.closing))
+            let k = numbers_of(code, under, n);
+            let p = evaluate(s, b, m, formula::is_next(o), k.inner, tables);
+            keep(tables, k.part, n, with_one(o, p, k.own, m.closing))
         }
         Code::Two(o) => {
-            let p = evaluate(s, b, m, false, inner, tables);
+            let k = numbers_of(code, under, n);
+            let p = evaluate(s, b, m, false, k.inner, tables);
             let q = evaluate(s, p.next, m, false, p.parts, tables);
-            keep(tables, part, n, with_two(o, p, q, own, m.closing))
+            keep(tables, k.part, n, with_two(o, p, q, k.own, m.closing))
         }
         Code::Unknown => with_none(false, at, n),
     }
@@ -207,12 +238,12 @@ fn evaluate(
 
 // What a formula leaves after the first world, in which no action was made.
 pub fn first(s: &[u8], state: u64) -> u64
-    requires { ⌜ Ready (parsed 64 64 (now s) 0) ⌝ }
+    requires { ⌜ Ready (now s) (parsed 64 64 (now s) 0) ⌝ }
     ensures { λ r. ⌜ r ≡ residualOf (parsed 64 64 (now (s .entry)) 0) (record { state = state; made = none }) ⌝ }
 {
     let mut tables = [0u64; MOST_PARTS];
     let m = Moment {
-        state,
+        truths: facts::read(s, state),
         action: 255,
         closing: false,
     };
@@ -222,12 +253,12 @@ pub fn first(s: &[u8], state: u64) -> u64
 
 // What a residual leaves after a world.
 pub fn next(s: &[u8], r: u64, state: u64, action: u8) -> u64
-    requires { ⌜ Ready (parsed 64 64 (now s) 0) × (action < 64) ⌝ }
+    requires { ⌜ Ready (now s) (parsed 64 64 (now s) 0) × (action < 64) ⌝ }
     ensures { λ x. ⌜ x ≡ progressedOf (parsed 64 64 (now (s .entry)) 0) r (record { state = state; made = some action }) ⌝ }
 {
     let mut tables = [0u64; MOST_PARTS];
     let m = Moment {
-        state,
+        truths: facts::read(s, state),
         action,
         closing: false,
     };
@@ -237,12 +268,12 @@ pub fn next(s: &[u8], r: u64, state: u64, action: u8) -> u64
 
 // Whether a residual is true of the closing world.
 pub fn closing(s: &[u8], r: u64, state: u64) -> bool
-    requires { ⌜ Ready (parsed 64 64 (now s) 0) ⌝ }
+    requires { ⌜ Ready (now s) (parsed 64 64 (now s) 0) ⌝ }
     ensures { λ b. ⌜ b ≡ closingOf (parsed 64 64 (now (s .entry)) 0) r (record { state = state; made = none }) ⌝ }
 {
     let mut tables = [0u64; MOST_PARTS];
     let m = Moment {
-        state,
+        truths: facts::read(s, state),
         action: 255,
         closing: true,
     };

@@ -9,6 +9,12 @@ use lib.Dec.{eqb}
 use lib.Pow.{pow-pos, pow-add}
 use Rattle.model.specs.Bits.{bit, digit, ofBits}
 
+-- a number is below 2 to any greater number
+pub below-power : (x n : ℕ) → x < n → x < 2 ^ n
+below-power x zero h = absurd (omega arith)
+below-power zero (suc n) h = pow-pos (suc n)
+below-power (suc x) (suc n) h = omega (arith, below-power x n (omega arith), pow-suc 2 n)
+
 -- what ofBits makes of n bits is below 2 ^ n
 pub ofBits-lt : (n : ℕ) (f : ℕ → Bool) → ofBits n f < 2 ^ n
 unfolding ofBits digit
@@ -68,7 +74,8 @@ pub bit-zero : (i : ℕ) → bit 0 i ≡ false
 unfolding bit
 bit-zero i = rw zero-div
 
-digit-of : (r : ℕ) → r < 2 → r ≡ digit (eqb r 1)
+-- a number below 2 is the digit of its test against 1
+pub digit-of : (r : ℕ) → r < 2 → r ≡ digit (eqb r 1)
 unfolding digit
 digit-of zero h = refl
 digit-of (suc zero) h = refl

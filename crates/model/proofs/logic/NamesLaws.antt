@@ -1,62 +1,26 @@
 -- What a formula leaves depends on a world only through the facts and the actions that the formula names, and so does its truth in the closing
 -- world.
 use mathlib.Core.Path.{_≡_, refl, ap, ap₂}
-use Prim.Native.Nat.{ℕ, suc, _+_, _*_, _^_}
+use Prim.Native.Nat.{ℕ, suc, _+_, _^_}
 use mathlib.Core.Bool.{Bool, true, false, not, _&&_, _||_}
-use mathlib.Core.List.{List, [], _∷_, _++_}
+use mathlib.Core.List.{[], _∷_}
 use Rattle.model.specs.declared.Constant.the-variants.{False, True, Last}
 use Rattle.model.specs.declared.Unary.the-variants.{Not, Next, Eventually, Always}
 use Rattle.model.specs.declared.Binary.the-variants.{And, Or, Until, Release}
-use Rattle.model.specs.Bits.{bit, digit, bitsOf}
+use Rattle.model.specs.Bits.{bit, bitsOf}
 use Rattle.model.specs.logic.Formula.{Formula, constant, fact, action, unary, binary}
-use Rattle.model.specs.logic.Parts.{size, count, temporal, Part, parts, partsOf}
+use Rattle.model.specs.logic.Parts.{count, Part, partsOf}
 use Rattle.model.specs.logic.Truth.{World, holds}
 use Rattle.model.specs.logic.Progression.{progress, progressed, residualHolds, closing}
 use Rattle.model.specs.logic.Names.{Names, Alike}
 use Rattle.model.proofs.bits.Bits.{ofBits-cong}
+use Rattle.model.proofs.logic.EachPart.{parts-same}
 
 module _ (f a : ℕ) where
-  -- ---- the carried parts of a formula name nothing else
-
-  abbrev Each : List Part → Type 0
-  Each [] = Unit {0}
-  Each (p ∷ ps) = Names f a (p .shape) × Each ps
-
-  each-append : (ps qs : List Part) → Each ps → Each qs → Each (ps ++ qs)
-  each-append [] qs g h = h
-  each-append (p ∷ ps) qs g h = (g .0, each-append ps qs (g .1) h)
-
-  parts-named : (φ : Formula) → Names f a φ → (n at : ℕ) → Each (parts φ n at)
-  unfolding parts
-  parts-named (constant c) g n at = tt
-  parts-named (fact i) g n at = tt
-  parts-named (action i) g n at = tt
-  parts-named (unary Not φ) g n at = parts-named φ g n (suc at)
-  parts-named (unary Next φ) g n at = go (temporal φ) (parts-named φ g n (suc at)) (parts-named φ g (suc n) (suc at))
-    where
-      go : (b : Bool) → Each (parts φ n (suc at)) → Each (parts φ (suc n) (suc at))
-          → Each (elim b as (λ x. List Part) [
-            | true ↦ parts φ n (suc at)
-            | false ↦ record { shape = φ; position = suc at; first = suc n } ∷ parts φ (suc n) (suc at)
-          ])
-      go true x y = x
-      go false x y = (g, y)
-  parts-named (unary Eventually φ) g n at = (g, parts-named φ g (suc n) (suc at))
-  parts-named (unary Always φ) g n at = (g, parts-named φ g (suc n) (suc at))
-  parts-named (binary And φ ψ) g n at =
-      each-append (parts φ n (suc at)) _ (parts-named φ (g .0) n (suc at)) (parts-named ψ (g .1) (n + count φ) (suc at + size φ))
-  parts-named (binary Or φ ψ) g n at =
-      each-append (parts φ n (suc at)) _ (parts-named φ (g .0) n (suc at)) (parts-named ψ (g .1) (n + count φ) (suc at + size φ))
-  parts-named (binary Until φ ψ) g n at =
-      (g, each-append (parts φ (suc n) (suc at)) _ (parts-named φ (g .0) (suc n) (suc at)) (parts-named ψ (g .1) (suc n + count φ) (suc at + size φ)))
-  parts-named (binary Release φ ψ) g n at =
-      (g, each-append (parts φ (suc n) (suc at)) _ (parts-named φ (g .0) (suc n) (suc at)) (parts-named ψ (g .1) (suc n + count φ) (suc at + size φ)))
-
-  -- a test that agrees on all formulas that name nothing else agrees on the parts
-  parts-alike : (p q : Part → Bool) → ((x : Part) → Names f a (x .shape) → p x ≡ q x) → (ps : List Part) → Each ps → bitsOf p ps ≡ bitsOf q ps
-  unfolding bitsOf
-  parts-alike p q e [] g = refl
-  parts-alike p q e (x ∷ ps) g = ap₂ (λ (b : Bool) (m : ℕ). digit b + 2 * m) (e x (g .0)) (parts-alike p q e ps (g .1))
+  -- a test that agrees on all formulas that name nothing else agrees on the parts of such a formula, which name nothing else
+  parts-alike : (p q : Part → Bool) → ((x : Part) → Names f a (x .shape) → p x ≡ q x) → (φ : Formula) → Names f a φ
+      → bitsOf p (partsOf φ) ≡ bitsOf q (partsOf φ)
+  parts-alike = parts-same (λ φ at. Names f a φ) (λ o φ at g. g) (λ o φ ψ at g. g .0) (λ o φ ψ at g. g .1)
 
   module _ (w v : World) (h : Alike f a w v) where
     -- ---- a world that is not the closing one
@@ -80,12 +44,12 @@ module _ (f a : ℕ) where
         ap₂ (λ (p q : Bool). q && (p || s n)) (progress-alike φ (g .0) (suc n) s) (progress-alike ψ (g .1) (suc n + count φ) s)
 
     pub progressed-alike : (φ : Formula) → Names f a φ → (n r : ℕ) → progressed n (partsOf φ) r w ≡ progressed n (partsOf φ) r v
-    unfolding progressed partsOf
+    unfolding progressed
     progressed-alike φ g n r =
         ofBits-cong (2 ^ n) _ _
         (λ k l. ap (bit r)
         (parts-alike (λ p. progress (p .shape) (p .first) w (bit k)) (λ p. progress (p .shape) (p .first) v (bit k))
-        (λ p e. progress-alike (p .shape) e (p .first) (bit k)) (parts φ 0 0) (parts-named φ g 0 0)))
+        (λ p e. progress-alike (p .shape) e (p .first) (bit k)) φ g))
 
     -- ---- the closing world
 
@@ -106,7 +70,7 @@ module _ (f a : ℕ) where
     holds-alike (binary Release φ ψ) g = ap₂ (λ (p q : Bool). q && (p || true)) (holds-alike φ (g .0)) (holds-alike ψ (g .1))
 
     pub closing-alike : (φ : Formula) → Names f a φ → (r : ℕ) → closing (partsOf φ) r w ≡ closing (partsOf φ) r v
-    unfolding closing residualHolds partsOf
+    unfolding closing residualHolds
     closing-alike φ g r =
         ap (bit r)
-        (parts-alike (λ p. holds (p .shape) (w ∷ [])) (λ p. holds (p .shape) (v ∷ [])) (λ p e. holds-alike (p .shape) e) (parts φ 0 0) (parts-named φ g 0 0))
+        (parts-alike (λ p. holds (p .shape) (w ∷ [])) (λ p. holds (p .shape) (v ∷ [])) (λ p e. holds-alike (p .shape) e) φ g)

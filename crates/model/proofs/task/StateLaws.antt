@@ -1,33 +1,23 @@
 -- What the definitions of states say of each fact.
 use mathlib.Core.Path.{_≡_, refl, sym, ap, ap₂, _∙_}
-use Prim.Native.Nat.{ℕ, zero, suc, _+_, _-_, _^_, _≤_, _<_}
-use native.Mathlib.Nat.{pow-suc, lt-of-lt-of-le}
+use Prim.Native.Nat.{ℕ, suc, _+_, _-_, _^_, _≤_, _<_}
 use native.Mathlib.Omega.{arith}
 use mathlib.Core.Bool.{Bool, true, false, not, _&&_, _||_, true≢false}
 use mathlib.Core.Logic.{_↔_}
 use lib.Bits.{bitAnd, bitOr, or-disjoint, and-le-l, and-le-r, or-lt}
-use lib.Pow.{pow-mono}
 use borrow.Author.Tests.{eqb-true, eq-eqb}
 use Rattle.model.specs.Bits.{bit, ofBits}
 use Rattle.model.specs.job.Job.{Action}
 use Rattle.model.specs.task.State.{within, apart, applicable, after}
-use Rattle.model.proofs.bits.Bits.{ofBits-lt, bit-ofBits, bits-ext, bit-zero}
+use Rattle.model.proofs.bits.Bits.{ofBits-lt, bit-ofBits, bits-ext, bit-zero, below-power}
 use Rattle.model.proofs.bits.Bitwise.{bit-and, bit-or}
 use Rattle.model.proofs.Tests.{and-both}
-
-pub lt-pow : (n : ℕ) → n < 2 ^ n
-lt-pow zero = omega arith
-lt-pow (suc n) = omega (arith, lt-pow n, pow-suc 2 n)
-
--- a number is below 2 to any number that is not below it
-below : (x n : ℕ) → x < n → x < 2 ^ n
-below x n h = let l : x < 2 ^ x = lt-pow x in let m : 2 ^ x < 2 ^ n = lt-of-lt-of-le (omega (arith, pow-suc 2 x)) (pow-mono h) in omega arith
 
 module _ (xs ys : ℕ) where
   -- the facts in common, told by their bits
   in-common : (zs : ℕ) → zs ≤ xs → ((i : ℕ) → bit xs i && bit ys i ≡ bit zs i) → bitAnd xs ys ≡ zs
   in-common zs l h =
-      bits-ext (suc xs) (bitAnd xs ys) zs (below (bitAnd xs ys) (suc xs) (omega (arith, and-le-l xs ys))) (below zs (suc xs) (omega arith))
+      bits-ext (suc xs) (bitAnd xs ys) zs (below-power (bitAnd xs ys) (suc xs) (omega (arith, and-le-l xs ys))) (below-power zs (suc xs) (omega arith))
       (λ i m. bit-and xs ys i ∙ h i)
 
   -- every fact of xs is one of ys
@@ -132,5 +122,5 @@ unfolding after
 after-facts a s i =
     let n : ℕ = suc (s + i) in
     bit-or (s - bitAnd s (a .del)) (a .add) i
-    ∙ ap (λ (x : ℕ). bit x i || bit (a .add) i) (left-over n s (a .del) (below s n (omega arith)))
+    ∙ ap (λ (x : ℕ). bit x i || bit (a .add) i) (left-over n s (a .del) (below-power s n (omega arith)))
     ∙ ap (λ (b : Bool). b || bit (a .add) i) (bit-ofBits n _ i (omega arith))

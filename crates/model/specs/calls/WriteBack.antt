@@ -11,6 +11,7 @@ use Rattle.model.specs.declared.Rewritten.the-variants.{Written, Refused
 use Rattle.model.specs.Verdict.{refusal, unless, orElse}
 use Rattle.model.specs.logic.Formula.{encode}
 use Rattle.model.specs.logic.Reading.{Parsed, formula, wrong, section}
+use Rattle.model.specs.logic.Parts.{mostBytes}
 use Rattle.model.specs.logic.NormalForm.{nnf}
 use Rattle.model.specs.job.Decoding.{countsInRange, formulaVerdict}
 use Rattle.model.specs.calls.Search.{writtenOver}
@@ -28,7 +29,7 @@ writeEnd r out = record { result = r; buffer = out }
 unfoldable pub ruleVerdict : ℕ → ℕ → List ℕ → Verdict
 unfolding orElse unless countsInRange formulaVerdict section
 ruleVerdict v a rule =
-    orElse (unless (countsInRange v a) 1 0) (orElse (unless (leb 1 (length rule) && leb (length rule) 128) 2 0) (formulaVerdict 0 (section v a rule)))
+    orElse (unless (countsInRange v a) 1 0) (orElse (unless (leb 1 (length rule) && leb (length rule) mostBytes) 2 0) (formulaVerdict 0 (section v a rule)))
 
 -- the bytes of the positive normal form of what a rule holds
 unfoldable pub rewritten : Parsed → List ℕ

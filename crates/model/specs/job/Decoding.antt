@@ -9,7 +9,7 @@ use Rattle.model.specs.declared.Verdict.the-variants.{Fine, Bad}
 use Rattle.model.specs.Bits.{numberAt}
 use Rattle.model.specs.Verdict.{refusal, unless, orElse, inTurn}
 use Rattle.model.specs.logic.Reading.{Parsed, formula, wrong}
-use Rattle.model.specs.logic.Parts.{mostParts, Part, partsOf}
+use Rattle.model.specs.logic.Parts.{mostBytes, mostParts, Part, partsOf}
 use Rattle.model.specs.job.Layout.{setBytes, plainSets, allSets, factCount, actionCount, constraintCount, hintCount, pairCount}
 use Rattle.model.specs.job.Layout.{pairOffset, pairLength, taskBytes, setCount, setOffset, formulaIn}
 
@@ -44,7 +44,7 @@ module _ (bytes : List ℕ) where
   unfoldable pub rightLength : ℕ → ℕ → Bool
   unfolding taskBytes
   rightLength zero n = eqb n (taskBytes bytes plainSets) || eqb n (taskBytes bytes allSets)
-  rightLength (suc i) n = leb 1 n && leb n 128
+  rightLength (suc i) n = leb 1 n && leb n mostBytes
 
   -- pairs, in turn: "pair or section not whole, not adjoining, wrong length"
   unfoldable pub pairVerdict : ℕ → Verdict

@@ -1,4 +1,4 @@
--- The carried parts of a formula; refusal 5.
+-- The size and the carried parts of a formula; refusal 5.
 use Prim.Native.Nat.{ℕ, suc, _+_}
 use mathlib.Core.Bool.{Bool, true, false}
 use mathlib.Core.List.{List, [], _∷_, _++_}
@@ -7,6 +7,10 @@ use Rattle.model.specs.declared.Unary.the-variants.{Not, Next, Eventuall
 use Rattle.model.specs.declared.Binary.{Binary}
 use Rattle.model.specs.declared.Binary.the-variants.{And, Or, Until, Release}
 use Rattle.model.specs.logic.Formula.{Formula, constant, fact, action, unary, binary}
+
+-- a formula's section "has 1 to 128 bytes"
+abbrev pub mostBytes : ℕ
+mostBytes = 128
 
 -- the number of bytes
 unfoldable pub size : Formula → ℕ
