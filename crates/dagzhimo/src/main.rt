@@ -1,12 +1,6 @@
 // Plans the job on standard input, of which it reads at most the first 8,192 bytes, and prints the plan or the refusal.
+use job::access;
 use libc::STDIN_FILENO;
-ghost use Prim.Native.Nat.{_<_};
-
-fn wide(x: u8) -> usize
-    ensures { λ r. ⌜ r < 256 ⌝ }
-{
-    x as usize
-}
 
 // Searches for a caller without rights, and prints what comes of it.
 fn plan(job: &[u8], needs: &[u8]) {
@@ -17,12 +11,12 @@ fn plan(job: &[u8], needs: &[u8]) {
     report::planned(told, part);
 }
 
-// The list of needed rights is a zero for each step, of which the job's second byte has the number: so every step may be used. Fewer than two bytes are
-// no job, and refused before the list is looked at.
+// The list of needed rights is a zero for each step, so every step may be used. Where fewer than four bytes were read, there is no number of steps; they
+// are no job, and refused before the list is looked at.
 fn main() {
     let mut job = [0u8; 8192];
     let n = io::read_full(STDIN_FILENO, &mut job);
     let needs = [0u8; 256];
-    let count = wide(job[1]);
-    plan(&job[..n], &needs[..count]);
+    let steps = access::wide(access::action_count(&job));
+    plan(&job[..n], &needs[..steps]);
 }

@@ -54,7 +54,7 @@ pub record Told (call : Call) (buffer : List ℕ) (n : ℕ) : Type 0 where
   pub size : length steps ≡ n
   pub longer : length buffer < n
 
--- the results that a call can have which is taken
+-- the results of a call that is taken
 pub data Result : Searched → Type 0 where
   plan-handed : (c n : ℕ) → Result (Planned c n)
   table-small : Result (Refused (refusal 10 0))
