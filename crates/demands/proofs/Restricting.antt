@@ -20,10 +20,11 @@ use Rattle.model.specs.calls.Search.{SearchEnd, SearchEnds, partOf}
 use Rattle.model.specs.calls.Numbers.{searchNumbers}
 use Rattle.model.proofs.exploration.Each.{all-at, all-mem}
 use Rattle.model.proofs.task.StateLaws.{within-facts}
+use Rattle.model.proofs.job.Accepted.{length-actions}
 use Rattle.model.proofs.rights.Steps.{barred-nowhere, next-usable}
 use Rattle.model.proofs.rights.Plans.{cost-restricted, allowed-restricted}
 use Rattle.model.proofs.rights.Lists.{usable-bit, zeros-usable, all-usable}
-use Rattle.model.proofs.rights.Alike.{actions-counted, same-end}
+use Rattle.model.proofs.rights.Alike.{same-end}
 use Rattle.model.proofs.rights.Counted.{counts-usable}
 use Rattle.model.proofs.rights.Further.{further-rights}
 use Rattle.model.proofs.calls.CallLaws.{call-fine, call-job}
@@ -62,7 +63,7 @@ module _ (by : Call) where
   unbarred : by .needs ≡ replicate (actionCount (by .bytes)) 0 → callerJob by ≡ j
   unbarred e = all-usable u j (λ i l.
       subst (λ (needs : List ℕ). bit (usableBits needs (by .rights)) i ≡ true) (sym e)
-      (zeros-usable (actionCount (by .bytes)) (by .rights) i (omega (arith, actions-counted (by .bytes)))))
+      (zeros-usable (actionCount (by .bytes)) (by .rights) i (omega (arith, length-actions (by .bytes)))))
 
   pub rights-of : RightsOf by
   rights-of = record {

@@ -21,7 +21,7 @@ use Rattle.model.proofs.exploration.Guiding.{kept-some, kept-none, kept-out}
 use Rattle.model.proofs.job.Accepted.{accepted-proper}
 use Rattle.model.proofs.job.GuidedJob.{job-laws, job-finite}
 use Rattle.model.proofs.rights.Steps.{length-restricted, action-usable, applicable-usable, next-usable, restricted-proper}
-use Rattle.job.proofs.Accepted.{length-actions, length-constraints, length-hints}
+use Rattle.model.proofs.job.Accepted.{length-actions, length-constraints, length-hints}
 use Rattle.held.specs.Held.{sys, nodeFor, HasEstimate}
 
 module _ (job : Query) where

@@ -7,7 +7,8 @@ use Rattle.model.specs.job.Rights.{restricted}
 use Rattle.model.specs.search.Query.{query, jobFor}
 use Rattle.model.proofs.rights.Steps.{length-restricted}
 use Rattle.job.proofs.Bounds.{head-there}
-use Rattle.job.proofs.Accepted.{accepted-laid, length-actions}
+use Rattle.model.proofs.job.Accepted.{length-actions}
+use Rattle.job.proofs.Accepted.{accepted-laid}
 use Rattle.estimate.proofs.Reading.{told}
 use Rattle.estimate.proofs.EndLaws.{all-low-more}
 use Rattle.estimate.proofs.LevelLaws.{Rising, rising-first, rising-done, rising-ends, rising-more, rising-over}

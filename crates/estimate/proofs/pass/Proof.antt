@@ -8,7 +8,8 @@ use borrow.Author.Needs.{needs}
 use Rattle.model.specs.job.Layout.{actionCount, jobOf}
 use Rattle.model.specs.search.Query.{query, jobFor}
 use Rattle.model.proofs.rights.Steps.{length-restricted}
-use Rattle.job.proofs.Accepted.{accepted-laid, length-actions}
+use Rattle.model.proofs.job.Accepted.{length-actions}
+use Rattle.job.proofs.Accepted.{accepted-laid}
 use Rattle.estimate.specs.Meaning.{never}
 use Rattle.estimate.specs.Turns.{Low, AllLow}
 use Rattle.estimate.proofs.EndLaws.{low-never}

@@ -12,13 +12,14 @@ use Rattle.model.specs.Bits.{bit}
 use Rattle.model.specs.Verdict.{unless}
 use Rattle.model.specs.logic.Formula.{choose}
 use Rattle.model.specs.job.Job.{Job, Action, actionOf, listOf}
-use Rattle.model.specs.job.Layout.{actionCount, jobOf}
+use Rattle.model.specs.job.Layout.{jobOf}
 use Rattle.model.specs.job.Decoding.{jobVerdict}
 use Rattle.model.specs.job.Rights.{usableBits, barred, restricted, Alike}
 use Rattle.model.specs.search.JobSystem.{solveJob}
 use Rattle.model.specs.calls.Call.{Call, call, needsVerdict, callVerdict, callerJob}
 use Rattle.model.specs.calls.Search.{SearchEnd, slotsIn, answered, tooSmall, decided}
-use Rattle.model.proofs.job.VerdictLaws.{length-listOf, listOf-cong}
+use Rattle.model.proofs.job.VerdictLaws.{listOf-cong}
+use Rattle.model.proofs.job.Accepted.{length-actions}
 
 pub same-restricted : (u : ℕ) (j k : Job) → Alike u j k → restricted u j ≡ restricted u k
 unfolding restricted
@@ -42,16 +43,12 @@ same-restricted u j k a = λ t. record {
 
 -- ---- calls
 
-pub actions-counted : (bytes : List ℕ) → length (jobOf bytes .actions) ≡ actionCount bytes
-unfolding jobOf
-actions-counted bytes = length-listOf _ (actionCount bytes)
-
 -- Of an accepted job only the number of steps decides whether a list is refused.
 list-verdict : (c : Call) → jobVerdict (c .bytes) ≡ Fine
     → callVerdict c ≡ unless (eqb (length (c .needs)) (length (jobOf (c .bytes) .actions))) 14 (length (c .needs))
 unfolding callVerdict needsVerdict
 list-verdict c fine =
-    rw fine (ap (λ (n : ℕ). unless (eqb (length (c .needs)) n) 14 (length (c .needs))) (sym (actions-counted (c .bytes))))
+    rw fine (ap (λ (n : ℕ). unless (eqb (length (c .needs)) n) 14 (length (c .needs))) (sym (length-actions (c .bytes))))
 
 module _ (a b needs : List ℕ) (rights : ℕ) (fine-a : jobVerdict a ≡ Fine) (fine-b : jobVerdict b ≡ Fine)
     (alike : Alike (usableBits needs rights) (jobOf a) (jobOf b)) where

@@ -6,7 +6,8 @@ use native.Mathlib.Omega.{arith}
 use lib.ListN.{getD}
 use borrow.Author.Needs.{needs}
 use Rattle.model.specs.job.Layout.{jobOf}
-use Rattle.job.proofs.Accepted.{accepted-laid, length-actions}
+use Rattle.model.proofs.job.Accepted.{length-actions}
+use Rattle.job.proofs.Accepted.{accepted-laid}
 use Rattle.nodes.specs.Meaning.{nodeIs}
 use Rattle.nodes.proofs.ChoiceLaws.{setFrom, set-of, set-none, set-lt, set-eight, set-tells, usable-tell}
 use Rattle.nodes.proofs.choices.Statement.{statement}

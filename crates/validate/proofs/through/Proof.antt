@@ -13,7 +13,7 @@ use Rattle.job.proofs.TurnLaws.{none-yet, fine-at, all-fine}
 use Rattle.validate.specs.declared.walk.Walk.{Walk}
 use Rattle.validate.specs.Walk.{started, walkOf, judged}
 use Rattle.progression.specs.Workspace.{Workspace}
-use Rattle.job.proofs.Accepted.{length-actions}
+use Rattle.model.proofs.job.Accepted.{length-actions}
 use Rattle.validate.proofs.Walks.{walk-none, walk-more, walk-all}
 use Rattle.validate.proofs.Verdicts.{answer-bad, answer-fine, step-checked, step-known}
 use Rattle.validate.proofs.through.Statement.{statement}

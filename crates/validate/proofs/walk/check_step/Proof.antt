@@ -4,7 +4,8 @@ use lib.ListN.{length}
 use borrow.Author.Needs.{needs}
 use Rattle.model.specs.Bits.{bit}
 use Rattle.model.specs.job.Layout.{jobOf}
-use Rattle.job.proofs.Accepted.{accepted-laid, length-actions}
+use Rattle.model.proofs.job.Accepted.{length-actions}
+use Rattle.job.proofs.Accepted.{accepted-laid}
 use Rattle.task.specs.Meaning.{actionIs}
 use Rattle.validate.proofs.Verdicts.{step-unknown, step-judged}
 use Rattle.validate.proofs.walk.check_step.Statement.{statement}
