@@ -7,7 +7,7 @@
 static uint8_t job[8192], plan[1024], *table;
 
 static uint64_t search(size_t length, size_t slots, uint64_t out[2]) {
-    return dagzhimo_search(job, length, table, slots * DAGZHIMO_SLOT, plan, sizeof plan, out);
+    return search_job(job, length, table, slots * DAGZHIMO_SLOT, plan, sizeof plan, out);
 }
 
 /* The fewest slots with which the search does not end in 10. More slots never make it end so. */

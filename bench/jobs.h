@@ -1,4 +1,4 @@
-/* What the benchmarks share: a clock, and jobs written as docs/JOB.md has them. */
+/* What the benchmarks share: a clock, jobs written as docs/JOB.md has them, and calls by someone who may use every step. */
 #ifndef JOBS_H
 #define JOBS_H
 
@@ -57,6 +57,18 @@ static inline size_t write_job(const task *t, uint8_t *job) {
         at += t->formula[i].length;
     }
     return at;
+}
+
+/* A list of needed rights by which every step may be used: as many of these as the job's second byte says. */
+static const uint8_t zeros[64];
+
+static inline uint64_t search_job(const uint8_t *job, size_t job_len, uint8_t *table, size_t table_len, uint8_t *plan, size_t plan_len,
+                                  uint64_t out[2]) {
+    return dagzhimo_search(job, job_len, zeros, job[1], 0, table, table_len, plan, plan_len, out);
+}
+
+static inline uint64_t walk_job(const uint8_t *job, size_t job_len, const uint8_t *steps, size_t steps_len, uint64_t out[2]) {
+    return dagzhimo_validate(job, job_len, zeros, job[1], 0, steps, steps_len, out);
 }
 
 /* One more fact and one more step: the fact is the goal, and the step adds it, needs all others, and forbids fact 0, which it needs. So the goal can be

@@ -12,7 +12,7 @@ static double least(size_t length, size_t count, int runs) {
         int calls = count < 100 ? 1000 : 1;
         double start = seconds();
         for (int c = 0; c < calls; c++) {
-            uint64_t answer = dagzhimo_validate(job, length, steps, count, out);
+            uint64_t answer = walk_job(job, length, steps, count, out);
             if (answer != 0 && answer != 9) printf("refused %llu %llu\n", (unsigned long long)answer, (unsigned long long)out[0]);
         }
         double took = seconds() - start;

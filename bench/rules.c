@@ -41,7 +41,7 @@ static void run(const char *what, const task *t, size_t places) {
     for (int i = 0; i < 3 || spent < 0.5; i++) {
         int calls = places < 500 ? 20 : 1;
         double start = seconds();
-        for (int c = 0; c < calls; c++) answer = dagzhimo_search(job, length, table, places * 160, plan, sizeof plan, out);
+        for (int c = 0; c < calls; c++) answer = search_job(job, length, table, places * 160, plan, sizeof plan, out);
         double took = seconds() - start;
         spent += took;
         if (took / calls < best) best = took / calls;

@@ -24,7 +24,7 @@ from pairs import Answer  # noqa: E402
 from written import check_written, positive  # noqa: E402
 
 
-MOST_INPUT = 8192   # as much of its standard input as the program `cases` reads
+MOST_INPUT = 16384  # as much of its standard input as the program `cases` reads
 
 
 def p(goal=4, rules=(), hints=(), forbidden=(None, None, None)):
@@ -39,16 +39,26 @@ def p_in(length):
     return with_formulas(bytes([3, 3]), task[:length].ljust(length, b"\0"), [], [])
 
 
-def search(data, room=64):
-    return b"s" + bytes([room, 0]) + struct.pack("<H", len(data)) + data
+# a case is a letter and five bytes, then its bytes: the list of needed rights, the steps, the job; or the rule (crates/cases/src/main.rt)
 
 
-def read_through(data, steps):
-    return b"v" + bytes([len(steps), 0]) + struct.pack("<H", len(data)) + bytes(steps) + data
+def zeros(data):
+    """The list of a caller who may use every step of a job, as the program lends it."""
+    return bytes(data[1]) if len(data) > 1 else b""
+
+
+def search(data, room=64, needs=None, rights=0):
+    needs = zeros(data) if needs is None else bytes(needs)
+    return b"s" + bytes([room, len(needs), rights]) + struct.pack("<H", len(data)) + needs + data
+
+
+def read_through(data, steps, needs=None, rights=0):
+    needs = zeros(data) if needs is None else bytes(needs)
+    return b"v" + bytes([len(steps), len(needs), rights]) + struct.pack("<H", len(data)) + needs + bytes(steps) + data
 
 
 def write_back(rule, count=3, steps=3):
-    return b"w" + bytes([len(rule), 0, count, steps]) + bytes(rule)
+    return b"w" + bytes([len(rule), 0, 0, count, steps]) + bytes(rule)
 
 
 def random_rules(count):
@@ -148,22 +158,51 @@ CARD_2 = [
     (search(job(4, 0, 8, [step(0, 1, 0, 1), step(1, 6, 0, 2), step(6, 8, 0, 0), step(0, 8, 0, 4)])), "plan 3 3\n0\n1\n2"),
 ]
 
-CASES = DOCUMENT_01 + CARD_1 + CARD_2
+# who may use which step: one step that adds the goal for 3, and the choice between two that do, the first for 1 and the second for 5
+ONE = [step(0, 1, 0, 3)]
+CHOICE = [step(0, 1, 0, 1), step(0, 1, 0, 5)]
+
+CARD_4 = [
+    # without the right and with it; two needed rights of which one is held, or the other, or both
+    (search(job(1, 0, 1, ONE), needs=[0x01], rights=0xfe), "refused 12 0"),
+    (search(job(1, 0, 1, ONE), needs=[0x01], rights=0x01), "plan 1 3\n0"),
+    (search(job(1, 0, 1, ONE), needs=[0x81], rights=0x80), "refused 12 0"),
+    (read_through(job(1, 0, 1, ONE), [0], needs=[0x81], rights=0x01), "refused 15 0"),
+    (read_through(job(1, 0, 1, ONE), [0], needs=[0x81], rights=0x81), "passed 3 0"),
+    # a list that is too short, too long, or for no steps; but 5 comes before it: the rule begins at 12 + 16, and its seventh part 7 bytes later
+    (search(job(1, 0, 1, ONE), needs=[]), "refused 14 0"),
+    (read_through(job(1, 0, 1, ONE), [1], needs=[0, 0]), "refused 14 2"),
+    (search(job(1, 0, 0, []), needs=[0]), "refused 14 1"),
+    (search(job(1, 0, 0, [], rules=[[0x20] + NEXTS]), needs=[0]), "refused 5 35"),
+    # a step that is barred and not applicable; a number that is no step, where the only step is barred; a barred step after one that is not
+    (read_through(job(1, 0, 0, [step(1, 0, 0, 1)]), [0], needs=[2], rights=1), "refused 15 0"),
+    (read_through(job(1, 0, 1, ONE), [1], needs=[2], rights=1), "refused 6 0"),
+    (read_through(job(1, 0, 1, CHOICE), [1, 0], needs=[4, 2], rights=2), "refused 15 1"),
+    # the barred step would be cheaper; a rule that wants it
+    (search(job(1, 0, 1, CHOICE), needs=[1, 0]), "plan 1 5\n1"),
+    (search(job(1, 0, 1, CHOICE, rules=[[0x21, 0x04, 0x00]]), needs=[1, 0]), "refused 12 0"),
+    # only the barred step would give the start an estimate, and so let the dead hint cut it
+    (search(job(1, 0, 1, ONE, hints=DEAD), needs=[1]), "refused 12 0"),
+    (search(job(1, 0, 1, ONE, hints=DEAD), needs=[1], rights=1), "refused 11 0"),
+]
+
+CASES = DOCUMENT_01 + CARD_1 + CARD_2 + CARD_4
 
 
 def printed(case):
     """What the oracle says of a case, in the words of the program `cases`."""
-    kind, size, body = case[:1], case[1], case[5:]
+    kind, size, count, rights, body = case[:1], *case[1:4], case[6:]
     if kind == b"w":
-        numbers, buffer = expect.write_back(case[3], case[4], body, bytes(512))
+        numbers, buffer = expect.write_back(case[4], case[5], body, bytes(512))
         return refusal(numbers) or f"written {numbers[1]}: " + buffer[:numbers[1]].hex(" ")
-    data, refused, judged = body if kind == b"s" else body[size:], None, None
+    needs, steps, data = body[:count], body[count:count + size], body[count + size if kind == b"v" else count:]
+    refused, judged = None, None
     try:
-        judged = Job(data)
+        judged = Job(data).of_caller(needs, rights)
     except Refused as r:
         refused = r
     if kind == b"v":
-        numbers = expect.read_through(refused, judged, body[:size])
+        numbers = expect.read_through(refused, judged, steps)
         return refusal(numbers) or f"passed {numbers[1]} {numbers[2]}"
     numbers, _, plan = expect.search(refused, judged and Answer(judged, Estimates(judged)), bytes(65536), bytes(size))[0]
     return refusal(numbers) or "\n".join([f"plan {numbers[2]} {numbers[1]}", *map(str, plan[:numbers[2]])])

@@ -6,31 +6,14 @@ enum { SLOT = DAGZHIMO_SLOT, SLOTS = 200, DEAREST = 65535 };
 
 static uint8_t job[MOST_JOB], table[SLOTS * SLOT], plan[64], large[DAGZHIMO_MOST_TABLE + SLOT + 1];
 
-/* ---- jobs; in a set 1 stands for fact 0, 2 for fact 1, 4 for fact 2 */
-
-struct step {
-    uint64_t needed, added, deleted, forbidden;
-    unsigned cost;
-};
+/* ---- jobs */
 
 /* Writes a job in the new form with one hint, or with none if it has no bytes, and gives its length. */
 static size_t write_job(uint8_t facts, uint64_t start, uint64_t goal, const struct step *steps, size_t count, const uint8_t *hint, size_t hint_len) {
-    size_t at = hint_len ? 12 : 8, size = TASK + NEW_STEP * count;
-    memset(job, 0, sizeof job);
-    job[0] = facts, job[1] = (uint8_t)count, job[3] = hint_len != 0;
-    put(job + 4, at, 2), put(job + 6, size, 2);
-    if (hint_len) put(job + 8, at + size, 2), put(job + 10, hint_len, 2), memcpy(job + at + size, hint, hint_len);
-    put(job + at, start, 8), put(job + at + 8, goal, 8);
-    for (size_t i = 0; i < count; i++) {
-        uint8_t *step = job + at + TASK + NEW_STEP * i;
-        put(step, steps[i].needed, 8), put(step + 8, steps[i].added, 8), put(step + 16, steps[i].deleted, 8), put(step + 24, steps[i].forbidden, 8);
-        put(step + 32, steps[i].cost, 2);
-    }
-    return at + size + hint_len;
+    return write_steps(job, NEW_STEP, facts, start, goal, steps, count, hint_len ? AS_HINT : PLAIN, hint, hint_len);
 }
 
-/* Steps as two arguments, where they are and how many; no hint, a hint that is dead at the start, and one that fact 0 stays true. */
-#define STEPS(...) (const struct step[]){__VA_ARGS__}, sizeof((const struct step[]){__VA_ARGS__}) / sizeof(struct step)
+/* No hint, a hint that is dead at the start, and one that fact 0 stays true. */
 #define NO_HINT NULL, 0
 #define DEAD BYTES(0x00)
 #define KEEP_FACT_0 BYTES(0x22, 0x03, 0x00)

@@ -19,14 +19,37 @@ struct numbers {
     uint64_t number, first, second;
 };
 
+/* Who calls: a list of the rights that each step needs, and the rights that the caller holds. */
+struct caller {
+    const uint8_t *needs;
+    size_t count;
+    uint8_t rights;
+};
+
+/* A caller who may use every step, as the program has it: no rights, and as many zeros as the job's second byte says. */
+static inline struct caller anyone(const uint8_t *job, size_t job_len) {
+    static const uint8_t zeros[256];
+    return (struct caller){zeros, job_len > 1 ? job[1] : 0, 0};
+}
+
+static inline struct numbers search_by(struct caller by, const uint8_t *job, size_t job_len, uint8_t *table, size_t table_len, uint8_t *plan,
+                                       size_t plan_len) {
+    uint64_t out[2] = {77, 77};
+    uint64_t number = dagzhimo_search(job, job_len, by.needs, by.count, by.rights, table, table_len, plan, plan_len, out);
+    return (struct numbers){number, out[0], out[1]};
+}
+
 static inline struct numbers search(const uint8_t *job, size_t job_len, uint8_t *table, size_t table_len, uint8_t *plan, size_t plan_len) {
-    uint64_t out[2] = {77, 77}, number = dagzhimo_search(job, job_len, table, table_len, plan, plan_len, out);
+    return search_by(anyone(job, job_len), job, job_len, table, table_len, plan, plan_len);
+}
+
+static inline struct numbers read_through_by(struct caller by, const uint8_t *job, size_t job_len, const uint8_t *steps, size_t steps_len) {
+    uint64_t out[2] = {77, 77}, number = dagzhimo_validate(job, job_len, by.needs, by.count, by.rights, steps, steps_len, out);
     return (struct numbers){number, out[0], out[1]};
 }
 
 static inline struct numbers read_through(const uint8_t *job, size_t job_len, const uint8_t *steps, size_t steps_len) {
-    uint64_t out[2] = {77, 77}, number = dagzhimo_validate(job, job_len, steps, steps_len, out);
-    return (struct numbers){number, out[0], out[1]};
+    return read_through_by(anyone(job, job_len), job, job_len, steps, steps_len);
 }
 
 static inline struct numbers write_back(uint64_t facts, uint64_t steps, const uint8_t *rule, size_t rule_len, uint8_t *buffer, size_t buffer_len) {
@@ -91,11 +114,40 @@ static inline size_t empty_job(uint8_t *job, uint8_t facts, uint8_t steps, size_
     return 8 + task;
 }
 
+enum as { PLAIN, AS_RULE, AS_HINT };
+
+/* In a set 1 stands for fact 0, 2 for fact 1, 4 for fact 2. */
+struct step {
+    uint64_t needed, added, deleted, forbidden;
+    unsigned cost;
+};
+
+/* Steps as two arguments, where they are and how many. */
+#define STEPS(...) (const struct step[]){__VA_ARGS__}, sizeof((const struct step[]){__VA_ARGS__}) / sizeof(struct step)
+
+/* Writes a job with steps of so many bytes, of which the old form has no forbidden facts, and with one formula, or with none if it is PLAIN. Gives its
+ * length. */
+static inline size_t write_steps(uint8_t *job, size_t step_len, uint8_t facts, uint64_t start, uint64_t goal, const struct step *steps, size_t count,
+                                 enum as as, const uint8_t *formula, size_t length) {
+    size_t at = as == PLAIN ? 8 : 12, size = TASK + step_len * count;
+    memset(job, 0, at + size);
+    job[0] = facts, job[1] = (uint8_t)count, job[2] = as == AS_RULE, job[3] = as == AS_HINT;
+    put(job + 4, at, 2), put(job + 6, size, 2);
+    put(job + at, start, 8), put(job + at + 8, goal, 8);
+    for (size_t i = 0; i < count; i++) {
+        uint8_t *step = job + at + TASK + step_len * i;
+        put(step, steps[i].needed, 8), put(step + 8, steps[i].added, 8), put(step + 16, steps[i].deleted, 8);
+        if (step_len == NEW_STEP) put(step + 24, steps[i].forbidden, 8);
+        put(step + step_len - 2, steps[i].cost, 2);
+    }
+    if (as == PLAIN) return at + size;
+    put(job + 8, at + size, 2), put(job + 10, length, 2), memcpy(job + at + size, formula, length);
+    return at + size + length;
+}
+
 /* ---- job P: sand adds fact 0 (cost 5), lamp adds fact 1 (cost 2), pass needs both and adds fact 2 (cost 9) */
 
 enum { GOAL_NONE = 0, GOAL_SCANNED = 4, P_ROOM = 12 + TASK + 3 * NEW_STEP + 128 };
-
-enum as { PLAIN, AS_RULE, AS_HINT };
 
 /* The facts that each step of P forbids. */
 struct forbidden {

@@ -3,47 +3,30 @@
     compare.py DRIVER [SEED [JOBS]]
 
 DRIVER is driver.c, compiled with the library. The seed is fixed unless one is given. It fails at the first difference and prints the job, or where the
-oracle itself is not as card 2 says; and it fails if something that the jobs are to try happened too seldom."""
+oracle itself is not as cards 2 and 4 say; and it fails if something that the jobs are to try happened too seldom.
+
+By card 4 the library's answers are also compared with each other: on twins, which are two jobs that differ in the sets and costs of barred steps alone, and
+by callers with more and more rights."""
 
 import random
 import sys
 
-import estimated
+import callers
 import events
 import expect
 import generate
-import richer
 import self_checks
 from driver import BadCall, Driver
 from enumeration import Enumeration
-from estimate import Estimates
 from formulas import MOST_BYTES, Refused, within
-from jobs import Job
+from given import MEMO, MOST_PAIRS, next_job, rooms, step_lists, wrong_list
 from pack import formula_bytes
-from pairs import SLOT, Answer, TooMany, slots
+from pairs import SLOT, slots
 from tally import Tally
 from written import check_written
 
-MOST_PAIRS = 500    # jobs that reach more, with estimates or without, are left out, since the oracle is slow
-
-# the planner uses its memo where the formulas' bytes, times the table's places or the list's steps, come to this number (docs/DECISIONS.md)
-MEMO = 4096
-
-# how often each kind of job is made, and by which change a job is made wrong
-KINDS = {generate.small_job: 16, richer.richer_job: 43, richer.wide_job: 3, richer.large_job: 5, richer.dense_job: 5, richer.either_form_job: 2,
-         estimated.estimated_job: 29, estimated.chain_job: 2}
-WRONG = {generate.damaged: 15, generate.other_length: 4, generate.high_bits: 6}
-
-
-def pick(rng, weights):
-    return rng.choices(list(weights), weights.values())[0]
-
-
-def answered(job):
-    """A job's answer, with document 01's own as `before`, which is the same one if no pair was left aside: both explorations are then the same."""
-    answer = Answer(job, Estimates(job), MOST_PAIRS)
-    answer.before = Answer(job, None, MOST_PAIRS) if answer.aside else answer
-    return answer
+# table and plan buffer for callers with more and more rights: there 10 comes seldom, and 13 never
+LARGE = bytes(600 * SLOT), bytes(600)
 
 
 class Comparison:
@@ -61,86 +44,98 @@ class Comparison:
 
     # ---- one job
 
-    def next_job(self):
-        """The bytes of a job, and if it is accepted the job and its answer, else its refusal."""
-        rng = self.rng
-        while True:
-            data = pick(rng, KINDS)(rng)
-            if rng.random() < 0.05:
-                data = generate.many_parts(rng, data)
-            if rng.random() < 0.25:
-                data = pick(rng, WRONG)(rng, data)
-            try:
-                job = Job(data)
-                return data, None, job, answered(job)
-            except Refused as refused:
-                return data, refused, None, None
-            except TooMany:
-                continue
-
     def one_job(self):
-        data, refused, job, answer = self.next_job()
-        if refused:
-            self.tally.count_true("jobs refused with", events.of_refused(data, refused))
+        rng = self.rng
+        given = next_job(rng)
+        twin, lists = None, None
+        if given.refused:
+            self.tally.count_true("jobs refused with", events.of_refused(given.data, given.refused, given.needs))
         else:
-            wrong = self_checks.wrong(job, answer)
-            if wrong:
-                self.fail(f"the oracle on {data.hex()}: {wrong}")
-            self.tally.count("jobs with the operator", *{f[0] for r in job.rules + job.hints for f in within(r.formula)})
-            self.tally.count("jobs with", *answer.events)
-            self.tally.count_true("jobs with", events.of_accepted(data, job, answer))
-            self.tally.count_true("jobs with", events.of_fact_codes(data, job, answer, MOST_PAIRS))
-            self.tally.count_true("jobs with", events.of_forbidden(job, answer, MOST_PAIRS))
-            self.tally.count_true("jobs with", events.of_estimates(job, answer, MOST_PAIRS))
-        lists = self.enumeration(data, job) if job else None
-        for room in self.rooms(answer):
-            self.search(data, refused, answer, lists, room)
-        for steps in self.step_lists(data, job, answer):
-            self.read_through(data, refused, job, steps)
+            self.look_at(given)
+            twin = given._replace(data=callers.with_other_barred(rng, given.data, given.job)) if given.job.barred() else None
+            lists = self.enumeration(given)
+        for room in rooms(rng, given.answer):
+            self.search(given, twin, lists, room)
+        for steps in step_lists(rng, given):
+            self.read_through(given, twin, steps)
+        if given.job:
+            self.growing_rights(given)
+            if rng.random() < 0.12:
+                self.with_wrong_list(given)
         self.write_back()
+
+    def look_at(self, given):
+        """Checks the oracle on an accepted job, and counts what is to be seen in it."""
+        data, needs, rights, _, job, answer = given
+        wrong = self_checks.wrong(job, answer)
+        if wrong:
+            self.fail(f"the oracle on {given}: {wrong}")
+        self.tally.count("jobs with the operator", *{f[0] for r in job.rules + job.hints for f in within(r.formula)})
+        self.tally.count("jobs with", *answer.events)
+        self.tally.count_true("jobs with", events.of_accepted(data, job, answer))
+        self.tally.count_true("jobs with", events.of_fact_codes(data, job, answer, MOST_PAIRS))
+        self.tally.count_true("jobs with", events.of_forbidden(job, answer, MOST_PAIRS))
+        self.tally.count_true("jobs with", events.of_estimates(job, answer, MOST_PAIRS))
+        self.tally.count_true("jobs with", events.of_rights(job, needs, rights, answer, MOST_PAIRS))
+
+    def with_wrong_list(self, given):
+        """The calls with a list that is not as long as there are steps."""
+        wrong, steps = wrong_list(self.rng, given), len(given.job.steps)
+        self.search(wrong, None, None, next(rooms(self.rng, given.answer)))
+        for numbers in bytes(given.answer.path), self.rng.randbytes(self.rng.randint(0, 4)):
+            self.read_through(wrong, None, numbers)
+        self.tally.count_true("calls with", {
+            "a list one too short": len(wrong.needs) == steps - 1,
+            "a list one too long": len(wrong.needs) == steps + 1,
+            "an empty list for some steps": not wrong.needs,
+            "a list for no steps": not steps,
+            "a list that is right in its lowest 8 bits": len(wrong.needs) % 256 == steps,
+        })
 
     # ---- search
 
-    def rooms(self, answer):
-        """Bytes of table and plan buffer for two searches: near what is needed, and any."""
-        rng = self.rng
-        reached, steps = (answer.reached, len(answer.path)) if answer else (1, 1)
-        near = rng.choice([1, reached // 2, reached - 1, reached, reached, reached + 1])
-        for places in (max(0, near), rng.choice([0, 2, 5, 12, 64, 200, 512, 512])):
-            yield places * SLOT + rng.randrange(SLOT), max(0, rng.choice([0, steps - 1, steps, steps, steps + 1, steps + 5, 40]))
+    def search(self, given, twin, lists, room):
+        """A search, compared with what is wanted, and with the same search of the twin, if there is one."""
+        answer, table, plan = given.answer, self.rng.randbytes(room[0]), self.rng.randbytes(room[1])
+        called = f"search of {given} in a table of {len(table)} bytes, plan buffer {plan.hex()}"
 
-    def search(self, data, refused, answer, lists, room):
-        table, plan = self.rng.randbytes(room[0]), self.rng.randbytes(room[1])
-        called = f"search of {data.hex()} in a table of {len(table)} bytes, plan buffer {plan.hex()}"
-        numbers, *lent = self.call(called, self.driver.search, data, table, plan)
-        ends = expect.search(refused, answer, table, plan)
+        def shown(numbers, after, plan):
+            state = "as it was" if after == table else "not cleared" if any(after) else "cleared"
+            return f"{numbers}, plan buffer {plan.hex()}, table {state}"
+
+        numbers, *lent = self.call(called, self.driver.search, *given[:3], table, plan)
+        ends = expect.search(given.refused, answer, table, plan)
         if (numbers, *lent) not in ends:
-            def shown(numbers, after, plan):
-                state = "as it was" if after == table else "not cleared" if any(after) else "cleared"
-                return f"{numbers}, plan buffer {plan.hex()}, table {state}"
             self.fail(f"{called}: got {shown(numbers, *lent)}; wanted {' or '.join(shown(*end) for end in ends)}")
         self.tally.count("search", numbers[0])
-        if refused:
+        if given.refused:
             return
+        if twin:
+            other = self.call(f"twin of the {called}", self.driver.search, *twin[:3], table, plan)
+            if other != (numbers, *lent):
+                self.fail(f"{called}: got {shown(numbers, *lent)}, but {shown(*other)} where barred steps are others: {twin.data.hex()}")
+            self.count_twin(given, twin, numbers, table, plan)
         self.tally.count_true("calls with", {
-            "search with a memo": formula_bytes(data) * slots(table) >= MEMO,
+            "search with a memo": formula_bytes(given.data) * slots(table) >= MEMO,
             "10 where an answer exists": numbers[0] == 10 and answer.number == 0,
             "over 64 slots": numbers[0] != 10 and answer.needed > 64,
             "as many slots as pairs": slots(table) == answer.reached,
             "one slot fewer": slots(table) == answer.reached - 1,
             "slots for the pairs with an estimate alone": answer.reached <= slots(table) < answer.before.reached,
+            "slots for the pairs of usable steps alone": answer.reached <= slots(table) < answer.unbarred.reached,
             "no slot and no pair": slots(table) == answer.reached == 0 < answer.before.reached,
+            "no slot and no pair by rights": slots(table) == answer.reached == 0 < answer.unbarred.reached,
             "a buffer as long as the plan": numbers[0] == 0 and len(plan) == len(answer.path),
             "one byte shorter": numbers[0] == 13 and len(plan) == len(answer.path) - 1,
         })
         if lists and numbers[0] != 10:
             self.compare_enumerated(called, numbers, lent[1][:numbers[2]], lists)
 
-    def enumeration(self, data, job):
+    def enumeration(self, given):
         """All short lists of the job, if they decide what a search must give."""
-        if job.hints and not all(s.cost for s in job.steps):
+        if given.job.hints and not all(s.cost for s in given.job.usable_steps()):
             return None
-        lists = Enumeration(job, formula_bytes(data))
+        lists = Enumeration(given.job, formula_bytes(given.data))
         return lists if lists.decides() else None
 
     def compare_enumerated(self, called, numbers, steps, lists):
@@ -151,36 +146,57 @@ class Comparison:
             self.tally.count_true("calls with", {
                 "enumeration": True,
                 "enumeration and hints": lists.job.hints,
+                "enumeration and a barred step": lists.job.barred(),
                 "enumeration of 4 steps or more": numbers[0] == 0 and lists.best[1] >= 4,
                 "enumeration and 13": numbers[0] == 13,
             })
 
+    def count_twin(self, given, twin, numbers, table, plan):
+        """The two must also be such that a caller who may use every step sees a difference; else they would compare little."""
+        first, second = (self.call("twins", self.driver.search, data, given.needs, callers.EVERY, table, plan) for data in (given.data, twin.data))
+        self.tally.count("searches of twins", numbers[0])
+        self.tally.count_true("searches of twins", {"a difference with all rights": first != second})
+
+    def growing_rights(self, given):
+        """Without hints a plan is never dearer, and never missing, for a caller with more rights. A search that ends in 10 says nothing."""
+        data, count = callers.without_hints(given.data), len(given.job.steps)
+        needs, fewer, before = callers.few_each(self.rng, count), None, None
+        for rights in callers.growing(self.rng) if count else []:
+            called = f"search of {data.hex()} with the list {needs.hex()} and the rights {rights:02x}"
+            number, cost, _ = self.call(called, self.driver.search, data, needs, rights, *LARGE)[0]
+            if number == 10:
+                continue
+            # (12, 0), no plan, is above every plan
+            if number not in (0, 12) or before and (number, cost) > before:
+                self.fail(f"{called}: got {number, cost}" + (f", and {before} with the rights {fewer:02x}" if before else ""))
+            self.tally.count_true("growing rights", {
+                "compared": before,
+                "with a plan": before and before[0] == 0,
+                "a first plan": before and before[0] > number,
+                "a cheaper plan": before and before[0] == number and before[1] > cost,
+                **{f"right {bit} decides": before and before > (number, cost) and rights - fewer == 1 << bit for bit in range(8)},
+            })
+            fewer, before = rights, (number, cost)
+
     # ---- read-through
 
-    def step_lists(self, data, job, answer):
-        """Step lists for a job: any numbers, the plan, applicable steps, steps that are applicable where forbidden facts are overlooked, and a list so
-        long that the memo is used."""
-        rng = self.rng
-        numbers = data[1] + 2 if job else 5
-        yield bytes(rng.randrange(numbers) for _ in range(rng.randint(0, 4)))
-        if job:
-            yield bytes(answer.path)
-            yield generate.walk_to_goal(rng, job, rng.randint(0, 12), 0)
-            yield generate.walk_to_goal(rng, job.forbidding_nothing(), rng.randint(0, 12), 0)
-            size = formula_bytes(data)
-            if size >= 20:
-                yield generate.walk_to_goal(rng, job, MEMO // size + rng.randint(1, 60), MEMO // size + 1)
-
-    def read_through(self, data, refused, job, steps):
-        called = f"read-through of {list(steps)} in {data.hex()}"
-        numbers = self.call(called, self.driver.read_through, data, steps)
-        wanted = expect.read_through(refused, job, steps)
+    def read_through(self, given, twin, steps):
+        """A read-through, compared with what is wanted, and with the same read-through of the twin, if there is one."""
+        job, called = given.job, f"read-through of {list(steps)} in {given}"
+        numbers = self.call(called, self.driver.read_through, *given[:3], steps)
+        wanted = expect.read_through(given.refused, job, steps)
         if numbers != wanted:
             self.fail(f"{called}: got {numbers}, wanted {wanted}")
         self.tally.count("read-through", numbers[0])
+        if twin:
+            other = self.call(f"twin of the {called}", self.driver.read_through, *twin[:3], steps)
+            if other != numbers:
+                self.fail(f"{called}: got {numbers}, but {other} where barred steps are others: {twin.data.hex()}")
+            self.tally.count("read-throughs of twins", numbers[0])
         if job:
+            self.tally.count_true("calls with", events.of_list_by_rights(job, numbers, steps))
             self.tally.count_true("calls with", {
-                "read-through with a memo": formula_bytes(data) * len(steps) >= MEMO,
+                "read-through with a memo": formula_bytes(given.data) * len(steps) >= MEMO,
                 "7 for a forbidden fact alone": events.refused_by_forbidden(job, numbers, steps),
             })
 

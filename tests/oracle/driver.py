@@ -12,31 +12,31 @@ class Driver:
     def __init__(self, path):
         self.process = subprocess.Popen([path], stdin=subprocess.PIPE, stdout=subprocess.PIPE)
 
-    def search(self, job, table, plan):
+    def search(self, job, needs, rights, table, plan):
         """The numbers (what it answers, out[0], out[1]), and table and plan buffer afterwards."""
-        numbers, job_after, *lent = self.call(b"s", 0, 0, job, table, plan)
-        if job_after != job:
-            raise BadCall("the job was written to")
+        numbers, job_after, needs_after, *lent = self.call(b"s", rights, 0, job, needs, table, plan)
+        if (job_after, needs_after) != (job, needs):
+            raise BadCall("the job or the list of needed rights was written to")
         return (numbers, *lent)
 
-    def read_through(self, job, steps):
+    def read_through(self, job, needs, rights, steps):
         """The numbers."""
-        numbers, *lent = self.call(b"v", 0, 0, job, b"", steps)
-        if lent != [job, b"", steps]:
-            raise BadCall("the job or the step list was written to")
+        numbers, *lent = self.call(b"v", rights, 0, job, needs, b"", steps)
+        if lent != [job, needs, b"", steps]:
+            raise BadCall("the job, the list of needed rights or the step list was written to")
         return numbers
 
     def write_back(self, facts, steps, rule, buffer):
         """The numbers, and the buffer afterwards."""
-        numbers, rule_after, _, written = self.call(b"w", facts, steps, rule, b"", buffer)
+        numbers, rule_after, _, _, written = self.call(b"w", facts, steps, rule, b"", b"", buffer)
         if rule_after != rule:
             raise BadCall("the rule was written to")
         return numbers, written
 
-    def call(self, kind, facts, steps, *slices):
+    def call(self, kind, first, second, *slices):
         lengths = [len(s) for s in slices]
         try:
-            self.process.stdin.write(kind + struct.pack("<2Q3I", facts, steps, *lengths) + b"".join(slices))
+            self.process.stdin.write(kind + struct.pack("<2Q4I", first, second, *lengths) + b"".join(slices))
             self.process.stdin.flush()
             reply = self.process.stdout.read(24 + sum(lengths))
         except BrokenPipeError:

@@ -8,7 +8,8 @@ MOST_WORK = 20000
 
 
 class Enumeration:
-    """All lists of applicable steps of up to `length` steps: the best allowed one as (cost, length, steps), and all allowed ones of its cost.
+    """All lists of applicable steps that the caller may use, of up to `length` steps: the best allowed one as (cost, length, steps), and all allowed ones
+    of its cost.
 
     The length is at most 6, and such that the lists times one more than the bytes of the formulas stay below 20,000: with a rule of 6 bytes some
     2,800 lists, which are all those of up to 4 steps where 7 steps are applicable everywhere. A list that is dearer than an allowed one is not
@@ -23,8 +24,7 @@ class Enumeration:
                     self.found(cost, plan)
             enumerated += len(lists)
             self.length += 1
-            longer = ((cost + job.steps[s].cost, plan + (s,), job.after(s, facts)) for cost, plan, facts in lists for s in range(len(job.steps))
-                      if job.applicable(s, facts))
+            longer = ((cost + job.steps[s].cost, plan + (s,), job.after(s, facts)) for cost, plan, facts in lists for s in job.able(facts))
             # one list too many tells as much as all of them
             lists = list(islice(longer, most - enumerated + 1))
         if not lists:
@@ -42,7 +42,7 @@ class Enumeration:
         each step costs 1 or more, lists that are longer than the least cost cost more."""
         if not self.job.hints:
             return True
-        seen = self.best is not None and all(s.cost for s in self.job.steps) and self.best[0] <= self.length
+        seen = self.best is not None and all(s.cost for s in self.job.usable_steps()) and self.best[0] <= self.length
         every = (1 << len(self.job.hints)) - 1
         return seen and all(self.job.read_through(plan)[1] == every for plan in self.cheapest)
 

@@ -1,5 +1,6 @@
 """The max estimate of what is left, from card 2's sentence: a fact that is true costs 0, any other the least over the steps that add it of the step's
-cost plus its dearest needed fact; a state costs its dearest goal fact. Deleted and forbidden facts are overlooked."""
+cost plus its dearest needed fact; a state costs its dearest goal fact. Deleted and forbidden facts are overlooked. By card 4 only those steps count that the
+caller may use."""
 
 NONE = float("inf")     # above every number: what cannot be built, and the estimate of a state that has none
 
@@ -24,10 +25,10 @@ def fact_costs(steps, facts):
 
 
 class Estimates:
-    """The estimates of a job's states, each worked out once."""
+    """The estimates of a job's states for its caller, each worked out once."""
 
     def __init__(self, job):
-        self.steps, self.goal, self.known = job.steps, job.goal, {}
+        self.steps, self.goal, self.known = job.usable_steps(), job.goal, {}
 
     def of(self, facts):
         """The estimate at a state, or NONE."""
@@ -37,5 +38,5 @@ class Estimates:
         return self.known[facts]
 
     def building(self, facts):
-        """The steps that count as building facts from these: all, whatever they forbid."""
+        """The steps that count as building facts from these: all that may be used, whatever they forbid."""
         return self.steps

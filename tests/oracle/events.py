@@ -1,15 +1,18 @@
 """What is to be seen in a random job, a refused or an accepted one, and in its read-throughs. The tally counts these events."""
 
+from copy import copy
+
 import pack
 from estimate import NONE, Estimates, fact_costs
 from formulas import CODE, MOST_BYTES, MOST_PARTS, within
-from jobs import Job
+from jobs import Job, held
 from pairs import Answer, TooMany
 
 
-def of_refused(data, refused):
-    """Events of a job that is refused. A high bit is bit V or one above it."""
+def of_refused(data, refused, needs):
+    """Events of a job that is refused, whatever the list of needed rights. A high bit is bit V or one above it."""
     found = {
+        f"{refused.number} and a list of another length": len(data) > 1 and len(needs) != data[1],
         "place over 255": refused.place > 255,
         "task of another length": (refused.number, refused.place) == (2, 0) and adjoining(data),
     }
@@ -74,13 +77,13 @@ def of_fact_codes(data, job, answer, most):
         "rule of 30 fact codes": any(len(places) >= 30 for places in codes["fact"]),
         "a fact at two places of a rule": any(len(places) > len({data[at + 1] for at in places}) for places in codes["fact"]),
         "a number that is a code": any(data[at + 1] in CODE.values() for kind in codes for places in codes[kind] for at in places),
-        "truths one place off decide": decides(data, one_off, answer, most),
-        "truths one place off decide, 15 fact codes": decides(data, [changed for changed in one_off if len(changed) >= 15], answer, most),
-        "a step read as a fact decides": decides(data, [as_fact], answer, most),
+        "truths one place off decide": decides(data, job, one_off, answer, most),
+        "truths one place off decide, 15 fact codes": decides(data, job, [changed for changed in one_off if len(changed) >= 15], answer, most),
+        "a step read as a fact decides": decides(data, job, [as_fact], answer, most),
     }
 
 
-def decides(data, changes, answer, most):
+def decides(data, job, changes, answer, most):
     """Whether other bytes in the formulas give another answer. A change is the bytes at some offsets."""
     changed = bytearray(data)
     for change in changes:
@@ -88,16 +91,20 @@ def decides(data, changes, answer, most):
             changed[at] = byte
     if changed == data:
         return False
-    try:
-        # the estimates do not look at formulas, so that they are the same
-        other = Answer(Job(bytes(changed)), answer.estimates, most)
-    except TooMany:
-        return True
-    return different(answer, other)
+    # the estimates do not look at formulas, so that they are the same
+    return other_answer(Job(bytes(changed)).using(job.usable), answer.estimates, answer, most)
 
 
 def different(answer, other):
     return any(getattr(answer, part) != getattr(other, part) for part in ("number", "key", "path", "reached"))
+
+
+def other_answer(job, estimates, answer, most):
+    """Whether a job with these estimates has another answer than this one; more pairs than `most` are a difference, too."""
+    try:
+        return different(answer, Answer(job, estimates, most))
+    except TooMany:
+        return True
 
 
 def of_forbidden(job, answer, most):
@@ -144,14 +151,15 @@ def of_estimates(job, answer, most):
 def free_cycle(job, facts):
     """Whether a state without an estimate had one if facts counted as built that steps of cost 0 would build from each other alone: the most facts
     each of which such a step adds that needs only some of them and what can be built."""
-    if all(step.cost or not step.needed for step in job.steps):
+    steps = job.usable_steps()
+    if all(step.cost or not step.needed for step in steps):
         return False
-    built = fact_costs(job.steps, facts).keys()
-    free, kept = None, {f for step in job.steps for f in step.added} - built
+    built = fact_costs(steps, facts).keys()
+    free, kept = None, {f for step in steps for f in step.added} - built
     while kept != free:
         free = kept
-        kept = {f for f in free if any(f in s.added and s.cost == 0 and s.needed <= free | built for s in job.steps)}
-    return job.goal <= fact_costs(job.steps, facts | free).keys()
+        kept = {f for f in free if any(f in s.added and s.cost == 0 and s.needed <= free | built for s in steps)}
+    return job.goal <= fact_costs(steps, facts | free).keys()
 
 
 class Heeding(Estimates):
@@ -179,7 +187,61 @@ def of_overlooked(job, answer, most):
     }
 
 
+def of_rights(job, needs, rights, answer, most):
+    """Events that show that barred steps matter: how the answer differs from that of a caller who may use every step, and from those of planners that leave
+    out formulas which name a barred step, count barred steps in the estimate, are content with one right of several, or take needs for rights."""
+    barred, unbarred = set(job.barred()), answer.unbarred
+    if not barred:
+        return {}
+    rules, hints = copy(job), copy(job)
+    rules.rules, hints.hints = [[f for f in formulas if not f.steps & barred] for formulas in (job.rules, job.hints)]
+    counting = Estimates(job.using(range(len(needs))))
+    one = job.using([s for s, needed in enumerate(needs) if needed & rights or not needed])
+    exchanged = job.using([s for s, needed in enumerate(needs) if held(rights, needed)])
+    try:
+        counted = Answer(job, counting, most)
+    except TooMany:
+        counted = None
+    planned = answer.number == unbarred.number == 0
+    return {
+        "a barred step": True,
+        "every step barred": not job.usable,
+        "barred steps decide the answer": different(answer, unbarred),
+        "another plan by rights": planned and answer.path != unbarred.path,
+        "a dearer plan by rights": planned and answer.key[0] > unbarred.key[0],
+        "no plan by rights": unbarred.number == 0 and answer.number != 0,
+        "a rule names a barred step and that decides": other_answer(rules, answer.estimates, answer, most),
+        "a hint names a barred step and that decides": other_answer(hints, answer.estimates, answer, most),
+        "a start without an estimate by rights": answer.estimates.of(job.start) == NONE > counting.of(job.start),
+        "a barred step in the estimate decides": counted is None or different(answer, counted),
+        "12 by rights in the estimate": counted and (counted.number, answer.number) == (11, 12),
+        "one right of several decides": other_answer(one, Estimates(one), answer, most),
+        "rights and needs exchanged decide": other_answer(exchanged, Estimates(exchanged), answer, most),
+    }
+
+
+# ---- read-throughs
+
+
 def refused_by_forbidden(job, numbers, steps):
     """Whether a read-through was refused with 7 though all facts that the step needs are true."""
     number, place, _ = numbers
     return number == 7 and job.steps[steps[place]].needed <= job.worlds(steps[:place])[-1][0]
+
+
+def of_list_by_rights(job, numbers, steps):
+    """Events of a read-through whose caller may not use every step."""
+    number, place, _ = numbers
+    if not job.barred():
+        return {}
+    unbarred, later = job.using(range(len(job.steps))), steps[place + 1:]
+    return {
+        "15 where 7 would have come": number == 15 and not job.applicable(steps[place], job.worlds(steps[:place])[-1][0]),
+        "15 in a list that others may use": number == 15 and unbarred.allowed(list(steps)),
+        "15 after the first step": number == 15 and place > 0,
+        "15 before a later 6": number == 15 and any(step >= len(job.steps) for step in later),
+        "6 for a caller with a barred step": number == 6,
+        "6 before a later 15": number == 6 and any(step in job.barred() for step in later),
+        "7 before a later 15": number == 7 and any(step in job.barred() for step in later),
+        "passed for a caller with a barred step": number == 0 and steps,
+    }

@@ -132,10 +132,10 @@ def high_bits(rng, data):
 
 
 def walk(rng, job, count, new=False):
-    """So many applicable steps at random, or as many as there are; if wished, only such as lead to facts that were not met before."""
+    """So many applicable steps at random that the caller may use, or as many as there are; if wished, only such as lead to facts that were not met before."""
     steps, facts, met = [], job.start, {job.start}
     for _ in range(count):
-        able = [s for s in range(len(job.steps)) if job.applicable(s, facts) and not (new and job.after(s, facts) in met)]
+        able = [s for s in job.able(facts) if not (new and job.after(s, facts) in met)]
         if not able:
             break
         steps.append(rng.choice(able))

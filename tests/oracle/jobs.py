@@ -40,8 +40,14 @@ def read_pairs(data, steps, count):
     return sections
 
 
+def held(needed, rights):
+    """Whether all needed rights are held: each bit of the one byte that is set is set in the other."""
+    return all(rights >> bit & 1 for bit in range(8) if needed >> bit & 1)
+
+
 class Job:
-    """An accepted job; making one of other bytes raises Refused. A set of facts is a frozenset of their numbers."""
+    """An accepted job; making one of other bytes raises Refused. A set of facts is a frozenset of their numbers. Its caller may use every step, until
+    `of_caller` says which; `usable` has their numbers."""
 
     def __init__(self, data):
         if len(data) < 4 or not 1 <= data[0] <= 64 or data[1] > 64 or data[2] > 8 or data[3] > 8:
@@ -66,9 +72,29 @@ class Job:
 
         self.start, self.goal = facts_at(task), facts_at(task + 8)
         self.steps = [step_at(task + TASK + size * i) for i in range(steps)]
+        self.usable = range(steps)
         formulas = [Rule(read_section(data, a, e, facts, steps)) for a, e in sections[1:]]
         self.rules, self.hints = formulas[:rules], formulas[rules:]
         self.offsets = [a for a, _ in sections]
+
+    def of_caller(self, needs, rights):
+        """The same job, asked by a caller who holds these rights and lends this list of needed ones; a list of another length is refused."""
+        if len(needs) != len(self.steps):
+            raise Refused(14, len(needs))
+        return self.using([step for step, needed in enumerate(needs) if held(needed, rights)])
+
+    def using(self, usable):
+        """The same job, asked by a caller who may use these steps alone, which are numbers in rising order."""
+        other = copy(self)
+        other.usable = usable
+        return other
+
+    def usable_steps(self):
+        return [self.steps[step] for step in self.usable]
+
+    def barred(self):
+        """The numbers of the steps that the caller may not use."""
+        return [step for step in range(len(self.steps)) if step not in self.usable]
 
     def forbidding_nothing(self):
         """The same job, but with every forbidden set empty."""
@@ -79,6 +105,10 @@ class Job:
     def applicable(self, step, facts):
         """All needed facts are true, and no forbidden one is."""
         return self.steps[step].needed <= facts and not self.steps[step].forbidden & facts
+
+    def able(self, facts):
+        """The numbers of the steps that the caller may make here: applicable ones, all of whose rights are held."""
+        return [step for step in self.usable if self.applicable(step, facts)]
 
     def after(self, step, facts):
         return (facts - self.steps[step].deleted) | self.steps[step].added
@@ -95,13 +125,15 @@ class Job:
         return sum(self.steps[s].cost for s in plan)
 
     def read_through(self, plan):
-        """Cost and hint bits of an allowed plan."""
+        """Cost and hint bits of an allowed plan, which has no step that the caller may not use."""
         if len(plan) > MOST_STEPS:
             raise Refused(6, MOST_STEPS)
         facts = self.start
         for i, step in enumerate(plan):
             if step >= len(self.steps):
                 raise Refused(6, i)
+            if step not in self.usable:
+                raise Refused(15, i)
             if not self.applicable(step, facts):
                 raise Refused(7, i)
             facts = self.after(step, facts)

@@ -1,5 +1,5 @@
-"""The pairs that a job reaches, and its answer: document 01's "Pairs and hints", and card 2, by which a pair without an estimate is not reached. All
-pairs are visited, by rising key, whatever their estimates.
+"""The pairs that a job reaches for its caller, and its answer: document 01's "Pairs and hints", and card 2, by which a pair without an estimate is not
+reached. All pairs are visited, by rising key, whatever their estimates.
 
 What happened on the way is noted as events, so that the comparison can tell whether its jobs make the rules matter."""
 
@@ -61,11 +61,9 @@ class Exploration:
         return without
 
     def leave(self, pair):
-        """Every step out of a pair that is not cut."""
+        """Every step out of a pair that is not cut: the caller may use it, since by card 4 no other step leads to a pair."""
         job, here = self.job, self.reached[pair]
-        for step in range(len(job.steps)):
-            if not job.applicable(step, pair[0]):
-                continue
+        for step in job.able(pair[0]):
             facts = job.after(step, pair[0])
             world = (facts, step)
             to = (facts, tuple(r.later(x, world) for r, x in zip(job.rules, pair[1])))

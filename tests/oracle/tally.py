@@ -7,8 +7,8 @@ from pairs import CUT, HINTS, LONGER, MERGED, PATH, REPLACED, SHORTER
 # how often each must happen at least, in a thousand jobs: about half of what was counted with several seeds, or what a comment asks
 FLOORS = {
     # how often each number was answered; 0 is a result
-    "search": {0: 260, 1: 11, 2: 110, 3: 88, 4: 22, 5: 14, 10: 210, 11: 55, 12: 120, 13: 66},
-    "read-through": {0: 640, 1: 5, 2: 55, 3: 44, 4: 11, 5: 7, 6: 130, 7: 165, 8: 500, 9: 180},
+    "search": {0: 260, 1: 11, 2: 110, 3: 88, 4: 22, 5: 14, 10: 210, 11: 55, 12: 120, 13: 66, 14: 45},
+    "read-through": {0: 640, 1: 5, 2: 55, 3: 44, 4: 11, 5: 7, 6: 130, 7: 165, 8: 500, 9: 180, 14: 90, 15: 195},
     "write-back": {0: 200, 1: 50, 2: 20, 4: 45, 5: 25, 13: 110},
     # the first seven are events of a job's exploration up to its answer
     "jobs with": {
@@ -27,19 +27,37 @@ FLOORS = {
         "a start without an estimate": 38, "a start with an estimate, a later pair without": 36, "a plan beside pairs without an estimate": 18,
         "11 that becomes 12": 25, "11 that becomes 12, the start with an estimate": 8, "11 that stays beside a cut pair without an estimate": 5,
         "no estimate because of a free cycle": 9, "an estimate by overlooking forbidden facts": 35,
-        "a plan by overlooking forbidden facts": 5, "11 by overlooking forbidden facts": 12},
+        "a plan by overlooking forbidden facts": 5, "11 by overlooking forbidden facts": 12,
+        # rights; barred steps must decide in a tenth of the jobs
+        "a barred step": 125, "every step barred": 11, "barred steps decide the answer": 100, "another plan by rights": 16,
+        "a dearer plan by rights": 10, "no plan by rights": 25, "a rule names a barred step and that decides": 9,
+        "a hint names a barred step and that decides": 2, "a start without an estimate by rights": 26, "a barred step in the estimate decides": 26,
+        "12 by rights in the estimate": 3, "one right of several decides": 32, "rights and needs exchanged decide": 68},
     # a high bit is bit V or one above it
     "jobs refused with": {
         "place over 255": 4, "task of another length": 20, "high bit in start": 8, "high bit in goal": 5, "high bit in needed": 5,
         "high bit in added": 5, "high bit in deleted": 5, "high bit in forbidden": 5, "high bit in the next set, too": 7,
-        "high bit in a later set, too": 7, "no high bit but V": 12},
+        "high bit in a later set, too": 7, "no high bit but V": 12,
+        "1 and a list of another length": 2, "2 and a list of another length": 32, "3 and a list of another length": 27,
+        "4 and a list of another length": 6, "5 and a list of another length": 4},
     # enumerated plans of four steps or more come in few jobs, with two searches each: seeds came to 3 to 13 in a thousand
     "calls with": {
         "10 where an answer exists": 160, "over 64 slots": 12, "as many slots as pairs": 150, "one slot fewer": 90,
         "slots for the pairs with an estimate alone": 65, "no slot and no pair": 30,
         "a buffer as long as the plan": 120, "one byte shorter": 42, "search with a memo": 100, "read-through with a memo": 165,
         "over 128 bytes written": 10, "enumeration": 140, "enumeration and hints": 14, "enumeration of 4 steps or more": 2, "enumeration and 13": 25,
-        "7 for a forbidden fact alone": 85},
+        "7 for a forbidden fact alone": 85,
+        # rights
+        "slots for the pairs of usable steps alone": 56, "no slot and no pair by rights": 20, "enumeration and a barred step": 29,
+        "15 where 7 would have come": 31, "15 in a list that others may use": 72, "15 after the first step": 63, "15 before a later 6": 27,
+        "6 for a caller with a barred step": 85, "6 before a later 15": 31, "7 before a later 15": 8, "passed for a caller with a barred step": 125,
+        "a list one too short": 6, "a list one too long": 6, "an empty list for some steps": 6, "a list for no steps": 1,
+        "a list that is right in its lowest 8 bits": 6},
+    # the library's answers compared with each other
+    "searches of twins": {0: 53, 10: 47, 11: 15, 12: 110, 13: 10, "a difference with all rights": 80},
+    "read-throughs of twins": {0: 185, 6: 85, 7: 55, 8: 340, 9: 53, 15: 195},
+    "growing rights": {
+        "compared": 1600, "with a plan": 500, "a first plan": 185, "a cheaper plan": 38, **{f"right {bit} decides": 8 for bit in range(8)}},
     "jobs with the operator": {
         "false": 24, "true": 24, "last": 115, "fact": 275, "step": 260, "not": 245, "and": 170, "or": 220, "next": 170, "eventually": 220,
         "always": 225, "until": 150, "release": 105},

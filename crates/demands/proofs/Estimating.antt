@@ -9,7 +9,6 @@ use lib.ListN.{length}
 use Rattle.model.specs.declared.Searched.the-variants.{Refused}
 use Rattle.model.specs.Verdict.{refusal}
 use Rattle.model.specs.job.Job.{Job, actionOf}
-use Rattle.model.specs.job.Layout.{jobOf}
 use Rattle.model.specs.task.State.{within, after}
 use Rattle.model.specs.task.Plan.{stateAfter, executable, costOf}
 use Rattle.model.specs.exploration.Equations.{no-plan}
@@ -19,17 +18,18 @@ use Rattle.model.specs.search.Node.{Node}
 use Rattle.model.specs.search.Estimate.{estimateOf}
 use Rattle.model.specs.search.MaxEstimate.{AtMost}
 use Rattle.model.specs.search.JobSystem.{startNode, nodeEstimate, systemOf, solveJob, reachedCount}
+use Rattle.model.specs.calls.Call.{Call, callerJob}
 use Rattle.model.specs.calls.Search.{SearchEnd, SearchGives}
 use Rattle.model.proofs.exploration.Fuel.{reached-none}
 use Rattle.model.proofs.exploration.Guiding.{kept-none, kept-out}
-use Rattle.model.proofs.job.Accepted.{accepted-proper}
+use Rattle.model.proofs.calls.CallLaws.{call-proper}
 use Rattle.model.proofs.job.PlanLaws.{executable-cons}
 use Rattle.model.proofs.job.NodeLaws.{start-some}
 use Rattle.model.proofs.job.VerdictLaws.{bad-not-fine}
 use Rattle.model.proofs.job.GuidedJob.{job-plans-stay}
 use Rattle.model.proofs.estimate.Estimates.{max-estimate}
 use Rattle.model.proofs.estimate.Overlooked.{overlooks}
-use Rattle.model.proofs.calls.Ways.{Way, no-job, none as no-answer, whole, short, small, way}
+use Rattle.model.proofs.calls.Ways.{Way, not-taken, none as no-answer, whole, short, small, way}
 use Rattle.demands.specs.Demand2.{AllowedPlan}
 use Rattle.demands.specs.Estimate.{Estimates, StartUnreached}
 use Rattle.demands.proofs.Results.{plan-not-none}
@@ -75,23 +75,23 @@ module _ (j : Job) where
   unfolding reachedCount
   count-zero e = ap length (none-reached e)
 
-module _ (job table buffer : List ℕ) where
+module _ (call : Call) (table buffer : List ℕ) where
   -- Every way out of a search but 12 is shut.
-  unreached : {e : SearchEnd} → Way job table buffer e → StartUnreached job e
-  unreached (no-job b) fine h = absurd (bad-not-fine (sym b ∙ fine))
-  unreached (no-answer f {k} s) fine h = let t = twelve (jobOf job) h in let d : k ≡ 12 = cc in ap (λ (n : ℕ). Refused (refusal n 0)) d
-  unreached (whole f s l) fine h = plan-not-none (sym s ∙ twelve (jobOf job) h)
-  unreached (short f s l) fine h = plan-not-none (sym s ∙ twelve (jobOf job) h)
-  unreached (small f l) fine h = absurd (omega (arith, count-zero (jobOf job) h))
+  unreached : {e : SearchEnd} → Way call table buffer e → StartUnreached call e
+  unreached (not-taken b) fine h = absurd (bad-not-fine (sym b ∙ fine))
+  unreached (no-answer f {k} s) fine h = let t = twelve (callerJob call) h in let d : k ≡ 12 = cc in ap (λ (n : ℕ). Refused (refusal n 0)) d
+  unreached (whole f s l) fine h = plan-not-none (sym s ∙ twelve (callerJob call) h)
+  unreached (short f s l) fine h = plan-not-none (sym s ∙ twelve (callerJob call) h)
+  unreached (small f l) fine h = absurd (omega (arith, count-zero (callerJob call) h))
 
-  pub start-unreached : (e : SearchEnd) → SearchGives job table buffer e → StartUnreached job e
-  start-unreached e g = unreached (way job table buffer g)
+  pub start-unreached : (e : SearchEnd) → SearchGives call table buffer e → StartUnreached call e
+  start-unreached e g = unreached (way call table buffer g)
 
-pub estimates : (job : List ℕ) → Estimates job
+pub estimates : (call : Call) → Estimates call
 unfolding solveJob
-estimates job = record {
-  is-max = max-estimate (jobOf job);
-  rest = rest-most (jobOf job);
-  overlooks = overlooks (jobOf job);
-  plans-stay = λ fine. job-plans-stay (jobOf job) (accepted-proper job fine);
+estimates call = record {
+  is-max = max-estimate (callerJob call);
+  rest = rest-most (callerJob call);
+  overlooks = overlooks (callerJob call);
+  plans-stay = λ fine. job-plans-stay (callerJob call) (call-proper call fine);
 }

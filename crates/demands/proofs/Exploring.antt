@@ -15,6 +15,8 @@ use Rattle.model.specs.exploration.System.{System}
 use Rattle.model.specs.exploration.Explore.{Entry, Of, reached}
 use Rattle.model.specs.search.Node.{Node}
 use Rattle.model.specs.search.JobSystem.{systemOf, solveJob, reachedCount}
+use Rattle.model.specs.calls.Call.{Call, callerJob}
+use Rattle.model.proofs.calls.CallLaws.{call-proper}
 use Rattle.model.proofs.logic.EncodingLaws.{section-encode}
 use Rattle.model.proofs.exploration.Laws.{Laws, Finite}
 use Rattle.model.proofs.exploration.Each.{All, all-at}
@@ -25,7 +27,7 @@ use Rattle.model.proofs.exploration.Solves.{reached-solves}
 use Rattle.model.proofs.exploration.Answered.{solve-answers, answer-is}
 use Rattle.model.proofs.job.Accepted.{ProperJob, accepted-proper, section-fine, each-formula}
 use Rattle.model.proofs.job.GuidedJob.{job-laws, job-finite}
-use Rattle.demands.specs.Demand1.{Accepted}
+use Rattle.demands.specs.Demand1.{Accepted, Taken}
 use Rattle.demands.specs.Demand2.{nodesOf, Different, ReadsRule, ReadsJob, Explored}
 use Rattle.demands.proofs.RuleReading.{reads-rule}
 use Rattle.demands.proofs.ReadingThrough.{allowed-is-plan}
@@ -77,18 +79,6 @@ module _ (job : List ℕ) (fine : Accepted job) where
   read-from : (φs : List Formula) → All (λ φ. length (partsOf φ) ≤ mostParts) φs → (φ : Formula) → List·Memᴰ φ φs → ReadsRule φ
   read-from φs h φ m = reads-rule φ (all-at (λ ψ. length (partsOf ψ) ≤ mostParts) φs m h)
 
-  answers-job : Answers (systemOf j) (Of (systemOf j) (reached (systemOf j))) (solveJob j)
-  unfolding solveJob
-  answers-job = solve-answers (systemOf j) (job-laws j) (job-finite j proper)
-
-  only-answer : (L : Entries (systemOf j)) → Explores (systemOf j) unbounded L → {a : Answer} → Answers (systemOf j) L a → solveJob j ≡ a
-  unfolding solveJob
-  only-answer L x w = answer-is (systemOf j) (job-laws j) (job-finite j proper) L x w
-
-  as-counted : reachedCount j ≡ length (nodesOf j)
-  unfolding reachedCount
-  as-counted = sym (length-map (reached (systemOf j)) (λ (e : Entry (systemOf j)). e .node))
-
   pub reads-job : ReadsJob job
   reads-job = record {
     encoded = encodes;
@@ -97,10 +87,29 @@ module _ (job : List ℕ) (fine : Accepted job) where
     allowed-is = allowed-is-plan j;
   }
 
-  pub explored : Explored job
+module _ (call : Call) (taken : Taken call) where
+  abbrev k : Job
+  k = callerJob call
+
+  proper-k : ProperJob k
+  proper-k = call-proper call taken
+
+  answers-job : Answers (systemOf k) (Of (systemOf k) (reached (systemOf k))) (solveJob k)
+  unfolding solveJob
+  answers-job = solve-answers (systemOf k) (job-laws k) (job-finite k proper-k)
+
+  only-answer : (L : Entries (systemOf k)) → Explores (systemOf k) unbounded L → {a : Answer} → Answers (systemOf k) L a → solveJob k ≡ a
+  unfolding solveJob
+  only-answer L x w = answer-is (systemOf k) (job-laws k) (job-finite k proper-k) L x w
+
+  as-counted : reachedCount k ≡ length (nodesOf k)
+  unfolding reachedCount
+  as-counted = sym (length-map (reached (systemOf k)) (λ (e : Entry (systemOf k)). e .node))
+
+  pub explored : Explored call
   explored = record {
-    solves = reached-solves (systemOf j) (job-laws j) (job-finite j proper);
-    different = different-nodes j proper;
+    solves = reached-solves (systemOf k) (job-laws k) (job-finite k proper-k);
+    different = different-nodes k proper-k;
     counted = as-counted;
     answer = answers-job;
     only = only-answer;

@@ -11,3 +11,4 @@ pub mod Lengths
 pub mod Uncut
 pub mod Answering
 pub mod Estimating
+pub mod Restricting

@@ -1,6 +1,7 @@
 -- The numbers that checks can refuse with.
-use mathlib.Core.Path.{_≡_, subst}
+use mathlib.Core.Path.{_≡_, refl, subst}
 use mathlib.Core.Bool.{Bool, true, false, _&&_}
+use mathlib.Core.Logic.{_⊎_, inl, inr}
 use mathlib.Core.List.{List, [], _∷_}
 use Prim.Native.Nat.{ℕ, zero, suc, _+_, _-_, _*_, _^_}
 use native.Mathlib.Omega.{arith}
@@ -10,7 +11,7 @@ use Rattle.model.specs.declared.Refusal.{Refusal}
 use Rattle.model.specs.declared.Verdict.{Verdict}
 use Rattle.model.specs.declared.Verdict.the-variants.{Fine, Bad}
 use Rattle.model.specs.declared.Constant.the-variants.{True}
-use Rattle.model.specs.Bits.{numberAt}
+use Rattle.model.specs.Bits.{bit, numberAt}
 use Rattle.model.specs.Verdict.{unless, orElse, inTurn}
 use Rattle.model.specs.logic.Parts.{mostParts, Part, partsOf}
 use Rattle.model.specs.logic.Reading.{Parsed, formula, wrong, section}
@@ -23,6 +24,7 @@ use Rattle.model.specs.job.Layout.{setBytes, setCount, factCount, actionCount, 
 use Rattle.model.specs.job.Layout.{setOffset, formulaIn}
 use Rattle.model.specs.task.State.{within, applicable}
 use Rattle.model.specs.task.Plan.{stateAfter, worlds}
+use Rattle.model.specs.calls.Call.{Call, needsVerdict, callVerdict}
 use Rattle.model.specs.calls.Validate.{lengthVerdict, stepVerdict, goalVerdict, constraintVerdict, stepsVerdict}
 use Rattle.model.specs.calls.WriteBack.{ruleVerdict}
 use Rattle.demands.specs.Demand1.{Between}
@@ -117,34 +119,42 @@ module _ (bytes : List ℕ) where
   unfolding jobVerdict
   job-numbered = or-else Early _ _ head-numbered (or-else Early _ _ pairs-numbered (or-else Early _ _ task-numbered formulas-numbered))
 
-module _ (j : Job) (p : List ℕ) where
+-- A call is refused with 1 to 5 or 14.
+pub call-numbered : (P : ℕ → Type 0) → ((k : ℕ) → Between 1 5 k → P k) → P 14 → (c : Call) → Numbered P (callVerdict c)
+unfolding callVerdict needsVerdict
+call-numbered P early fourteen c =
+    or-else P _ _ (λ r e. early (r .number) (job-numbered (c .bytes) r e))
+    (with-number P (eqb (length (c .needs)) (actionCount (c .bytes))) 14 (length (c .needs)) fourteen)
+
+module _ (j : Job) (p : List ℕ) (u : ℕ) where
   abbrev Late : ℕ → Type 0
-  Late = Between 6 9
+  Late k = Between 6 9 k ⊎ (k ≡ 15)
 
   length-numbered : Numbered Late (lengthVerdict j p)
   unfolding lengthVerdict
-  length-numbered = with-number Late (leb (length p) 65_535) 6 65_535 (omega arith, omega arith)
+  length-numbered = with-number Late (leb (length p) 65_535) 6 65_535 (inl (omega arith, omega arith))
 
-  step-numbered : (i : ℕ) → Numbered Late (stepVerdict j p i)
+  step-numbered : (i : ℕ) → Numbered Late (stepVerdict j p u i)
   unfolding stepVerdict
   step-numbered i =
-      or-else Late _ _ (with-number Late (ltb (getD p i 0) (length (j .actions))) 6 i (omega arith, omega arith))
-      (with-number Late (applicable (actionOf j (getD p i 0)) (stateAfter j (j .start) (take i p))) 7 i (omega arith, omega arith))
+      or-else Late _ _ (with-number Late (ltb (getD p i 0) (length (j .actions))) 6 i (inl (omega arith, omega arith)))
+      (or-else Late _ _ (with-number Late (bit u (getD p i 0)) 15 i (inr refl))
+      (with-number Late (applicable (actionOf j (getD p i 0)) (stateAfter j (j .start) (take i p))) 7 i (inl (omega arith, omega arith))))
 
   goal-numbered : Numbered Late (goalVerdict j p)
   unfolding goalVerdict
-  goal-numbered = with-number Late (within (j .goal) (stateAfter j (j .start) p)) 8 0 (omega arith, omega arith)
+  goal-numbered = with-number Late (within (j .goal) (stateAfter j (j .start) p)) 8 0 (inl (omega arith, omega arith))
 
   constraint-numbered : (i : ℕ) → Numbered Late (constraintVerdict j p i)
   unfolding constraintVerdict
-  constraint-numbered i = with-number Late (holds (getD (j .constraints) i (constant True)) (worlds j p)) 9 i (omega arith, omega arith)
+  constraint-numbered i = with-number Late (holds (getD (j .constraints) i (constant True)) (worlds j p)) 9 i (inl (omega arith, omega arith))
 
-  -- A step list is refused with 6 to 9.
-  pub steps-numbered : Numbered Late (stepsVerdict j p)
+  -- A step list is refused with 6 to 9 or 15.
+  pub steps-numbered : Numbered Late (stepsVerdict j p u)
   unfolding stepsVerdict
   steps-numbered =
       or-else Late _ _ length-numbered
-      (or-else Late _ _ (in-turn Late (length p) (stepVerdict j p) step-numbered)
+      (or-else Late _ _ (in-turn Late (length p) (stepVerdict j p u) step-numbered)
       (or-else Late _ _ goal-numbered (in-turn Late (length (j .constraints)) (constraintVerdict j p) constraint-numbered)))
 
 -- A rule to write back is refused with 1, 2, 4 or 5 before its buffer is looked at.

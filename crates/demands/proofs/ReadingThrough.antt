@@ -20,8 +20,8 @@ use Rattle.model.specs.logic.Truth.{holds}
 use Rattle.model.specs.logic.Sat.{Sat}
 use Rattle.model.specs.job.Job.{Job}
 use Rattle.model.specs.job.Layout.{jobOf}
-use Rattle.model.specs.job.Decoding.{jobVerdict}
 use Rattle.model.specs.task.Plan.{worlds, allowed, costOf}
+use Rattle.model.specs.calls.Call.{Call, callVerdict, usableIn, callerJob}
 use Rattle.model.specs.calls.Validate.{stepsVerdict, hintBits, validated}
 use Rattle.model.proofs.bits.BitsOf.{bitsOf-lt, bitsOf-at, bitsOf-past}
 use Rattle.model.proofs.exploration.Each.{all-at, all-mem}
@@ -29,7 +29,8 @@ use Rattle.model.proofs.logic.SatLaws.{sat-holds}
 use Rattle.model.proofs.job.Accepted.{accepted-proper}
 use Rattle.model.proofs.job.PlanLaws.{allHold-each, allowed-split}
 use Rattle.model.proofs.job.ReadThrough.{validated-passes}
-use Rattle.demands.specs.Demand1.{Accepted}
+use Rattle.model.proofs.calls.CallLaws.{call-job}
+use Rattle.demands.specs.Demand1.{Taken}
 use Rattle.demands.specs.Demand2.{AllowedPlan, ReadsThrough}
 use Rattle.demands.proofs.Results.{refused-not-passed}
 use Rattle.demands.proofs.CostSums.{cost-at-most}
@@ -69,16 +70,16 @@ bits-of f d xs i = go (decLt i (length xs))
     go (yes l) = (λ h. (l, sym (bitsOf-at f d xs i l) ∙ h), λ h. bitsOf-at f d xs i l ∙ h .1)
     go (no l) = (λ h. absurd (false≢true (sym (bitsOf-past f xs i (omega arith)) ∙ h)), λ h. absurd (l (h .0)))
 
-module _ (job p : List ℕ) where
+module _ (call : Call) (p : List ℕ) where
   abbrev j : Job
-  j = jobOf job
+  j = jobOf (call .bytes)
 
   -- What passes has its own cost and bits.
-  own-numbers : {c b : ℕ} → validated job p ≡ Passed c b → (c ≡ costOf j p) × (b ≡ hintBits j p)
+  own-numbers : {c b : ℕ} → validated call p ≡ Passed c b → (c ≡ costOf j p) × (b ≡ hintBits j p)
   unfolding validated
-  own-numbers {c} {b} h = go (orElse (jobVerdict job) (stepsVerdict j p)) refl
+  own-numbers {c} {b} h = go (orElse (callVerdict call) (stepsVerdict j p (usableIn call))) refl
     where
-      go : (v : Verdict) → orElse (jobVerdict job) (stepsVerdict j p) ≡ v → (c ≡ costOf j p) × (b ≡ hintBits j p)
+      go : (v : Verdict) → orElse (callVerdict call) (stepsVerdict j p (usableIn call)) ≡ v → (c ≡ costOf j p) × (b ≡ hintBits j p)
       go Fine e =
           let f : Passed (costOf j p) (hintBits j p) ≡ Passed c b = rw (e, validated) at h in
           let ec : c ≡ costOf j p = cc in
@@ -86,9 +87,9 @@ module _ (job p : List ℕ) where
           (ec, eb)
       go (Bad r) e = refused-not-passed {r = r} (rw (e, validated) at h)
 
-  -- So it is an allowed plan of an accepted job, and not too long.
-  good : {c b : ℕ} → validated job p ≡ Passed c b → Accepted job × (length p ≤ 65_535) × (allowed j p ≡ true)
-  good h = let n = own-numbers h in (validated-passes job p) .0 (h ∙ (λ i. Passed (n .0 i) (n .1 i)))
+  -- So it is an allowed plan in a call that is taken, and not too long.
+  good : {c b : ℕ} → validated call p ≡ Passed c b → Taken call × (length p ≤ 65_535) × (allowed (callerJob call) p ≡ true)
+  good h = let n = own-numbers h in (validated-passes call p) .0 (h ∙ (λ i. Passed (n .0 i) (n .1 i)))
 
   hint-met : (i : ℕ) → (bit (hintBits j p) i ≡ true) ↔ ((i < length (j .hints)) × Sat (worlds j p) 0 (getD (j .hints) i (constant False)))
   unfolding hintBits
@@ -97,22 +98,24 @@ module _ (job p : List ℕ) where
       let s = at-start j p (getD (j .hints) i (constant False)) in
       (λ h. let x = b .0 h in (x .0, s .1 (x .1)), λ x. b .1 (x .0, s .0 (x .1)))
 
-  bits-few : Accepted job → hintBits j p < 2 ^ 8
+  bits-few : Taken call → hintBits j p < 2 ^ 8
   unfolding hintBits
-  bits-few fine = lt-of-lt-of-le (bitsOf-lt (λ (φ : Formula). holds φ (worlds j p)) (j .hints)) (pow-mono (accepted-proper job fine .few-hints))
+  bits-few fine =
+      lt-of-lt-of-le (bitsOf-lt (λ (φ : Formula). holds φ (worlds j p)) (j .hints)) (pow-mono (accepted-proper (call .bytes) (call-job call fine) .few-hints))
 
   few-steps : (n c : ℕ) → n ≤ 65_535 → c ≤ 65_535 * n → c ≤ 65_535 * 65_535
   few-steps n c l h = omega arith
 
-  pub reads-through : ReadsThrough job p
+  pub reads-through : ReadsThrough call p
   reads-through = record {
     passes = λ fine l. (
-      λ x. allowed-is-plan j p .0 (good (x .2) .2),
-      λ a. (costOf j p, hintBits j p, (validated-passes job p) .1 (fine, l, allowed-is-plan j p .1 a)),
+      λ x. allowed-is-plan (callerJob call) p .0 (good (x .2) .2),
+      λ a. (costOf j p, hintBits j p, (validated-passes call p) .1 (fine, l, allowed-is-plan (callerJob call) p .1 a)),
     );
     only = λ h. let g = good h in (g .0, g .1);
     cost = λ h. own-numbers h .0;
-    cost-most = λ bs h. few-steps (length p) _ (good h .1) (subst (λ (n : ℕ). n ≤ 65_535 * length p) (sym (own-numbers h .0)) (cost-at-most job bs p));
+    cost-most = λ bs h. few-steps (length p) _ (good h .1)
+        (subst (λ (n : ℕ). n ≤ 65_535 * length p) (sym (own-numbers h .0)) (cost-at-most (call .bytes) bs p));
     bits = λ h i.
         subst (λ (n : ℕ). (bit n i ≡ true) ↔ ((i < length (j .hints)) × Sat (worlds j p) 0 (getD (j .hints) i (constant False))))
         (sym (own-numbers h .1)) (hint-met i);

@@ -7,6 +7,7 @@ use Prim.Native.Nat.{ℕ}
 use native.Mathlib.Omega.{arith}
 use lib.Dec.{leb}
 use lib.ListN.{length}
+use borrow.Author.Tests.{ne-eqb}
 use Rattle.model.specs.declared.Refusal.{Refusal}
 use Rattle.model.specs.declared.Verdict.{Verdict}
 use Rattle.model.specs.declared.Verdict.the-variants.{Fine, Bad}
@@ -16,33 +17,46 @@ use Rattle.model.specs.declared.Validated.{Validated}
 use Rattle.model.specs.declared.Validated.the-variants.{Passed, Refused as NotPassed}
 use Rattle.model.specs.declared.Rewritten.{Rewritten}
 use Rattle.model.specs.declared.Rewritten.the-variants.{Written, Refused as NotWritten}
-use Rattle.model.specs.Verdict.{refusal, orElse}
-use Rattle.model.specs.job.Layout.{jobOf}
-use Rattle.model.specs.job.Decoding.{jobVerdict}
+use Rattle.model.specs.Verdict.{refusal, unless, orElse}
+use Rattle.model.specs.job.Job.{Job}
+use Rattle.model.specs.job.Layout.{actionCount, jobOf}
 use Rattle.model.specs.logic.Reading.{section}
+use Rattle.model.specs.calls.Call.{Call, needsVerdict, callVerdict, usableIn}
 use Rattle.model.specs.calls.Search.{SearchEnd, searchEnd, cleared, SearchGives}
 use Rattle.model.specs.calls.Validate.{stepsVerdict, validated}
 use Rattle.model.specs.calls.WriteBack.{WriteEnd, writeEnd, ruleVerdict, rewritten, into, writtenBack}
 use Rattle.model.specs.calls.Numbers.{refusalNumbers, searchNumbers, validateNumbers, writeNumbers, SearchAnswers, WriteAnswers}
-use Rattle.model.proofs.job.AcceptedPlans.{accepted-right}
 use Rattle.model.proofs.job.VerdictLaws.{bad-not-fine}
-use Rattle.model.proofs.calls.Ways.{Way, no-job, none, whole, short, small, way}
-use Rattle.demands.specs.Demand1.{Accepted, Between, SearchRefuses, ReadThroughRefuses, RuleNumber, WriteBackRefuses}
+use Rattle.model.proofs.calls.CallLaws.{call-fine, call-right}
+use Rattle.model.proofs.calls.Ways.{Way, not-taken, none, whole, short, small, way}
+use Rattle.demands.specs.Demand1.{Taken, Between, Checks, SearchRefuses, ReadThroughRefuses, RuleNumber, WriteBackRefuses}
 use Rattle.demands.specs.Demand1.{SearchAnswer, ValidateAnswer, WriteAnswer}
 use Rattle.demands.proofs.Results.{planned-not-refused, same-refused, passed-not-refused, written-not-refused}
-use Rattle.demands.proofs.Numbered.{job-numbered, steps-numbered, rule-numbered}
+use Rattle.demands.proofs.Numbered.{job-numbered, call-numbered, steps-numbered, rule-numbered}
+
+-- ---- what is checked first
+
+pub checks : (call : Call) → Checks call
+unfolding callVerdict needsVerdict
+checks call = record {
+  taken-if = call-fine call;
+  not-accepted = λ {r} h. (ap (λ (v : Verdict). orElse v (needsVerdict call)) h, job-numbered (call .bytes) r h);
+  other-length = λ fine n.
+      ap (λ (v : Verdict). orElse v (needsVerdict call)) fine
+      ∙ ap (λ (b : Bool). unless b 14 (length (call .needs))) (ne-eqb (length (call .needs)) (actionCount (call .bytes)) n);
+}
 
 -- ---- a search
 
-module _ (job table buffer : List ℕ) where
+module _ (call : Call) (table buffer : List ℕ) where
   -- What holds of a refusal's number holds of that of a result that is the same.
   as-number : {r q : Refusal} (P : ℕ → Type 0) → Refused q ≡ Refused r → P (q .number) → P (r .number)
   as-number P e h = subst (λ (x : Refusal). P (x .number)) (same-refused e) h
 
-  -- Of an accepted job the numbers are 10 to 13.
-  late : {e : SearchEnd} → Way job table buffer e → Accepted job → {r : Refusal} → e .result ≡ Refused r → Between 10 13 (r .number)
-  late (no-job b) fine h = absurd (bad-not-fine (sym b ∙ fine))
-  late (none f {k} s) fine h = as-number (Between 10 13) h (go (accepted-right job f .numbers s))
+  -- Of a call that is taken the numbers are 10 to 13.
+  late : {e : SearchEnd} → Way call table buffer e → Taken call → {r : Refusal} → e .result ≡ Refused r → Between 10 13 (r .number)
+  late (not-taken b) fine h = absurd (bad-not-fine (sym b ∙ fine))
+  late (none f {k} s) fine h = as-number (Between 10 13) h (go (call-right call f .numbers s))
     where
       go : (k ≡ 11) ⊎ (k ≡ 12) → Between 10 13 k
       go (inl e) = (omega arith, omega arith)
@@ -51,49 +65,52 @@ module _ (job table buffer : List ℕ) where
   late (short f s l) fine h = as-number (Between 10 13) h (omega arith, omega arith)
   late (small f l) fine h = as-number (Between 10 13) h (omega arith, omega arith)
 
-  early : {e : SearchEnd} → Way job table buffer e → {r : Refusal} → jobVerdict job ≡ Bad r → (e .result ≡ Refused r) × Between 1 5 (r .number)
-  early (no-job {r = q} b) {r} h = let d : q ≡ r = cc in (ap Refused d, job-numbered job r h)
+  early : {e : SearchEnd} → Way call table buffer e → {r : Refusal} → callVerdict call ≡ Bad r → e .result ≡ Refused r
+  early (not-taken {r = q} b) {r} h = let d : q ≡ r = cc in ap Refused d
   early (none f s) h = absurd (bad-not-fine (sym h ∙ f))
   early (whole f s l) h = absurd (bad-not-fine (sym h ∙ f))
   early (short f s l) h = absurd (bad-not-fine (sym h ∙ f))
   early (small f l) h = absurd (bad-not-fine (sym h ∙ f))
 
-  either : {e : SearchEnd} → Way job table buffer e → {r : Refusal} → e .result ≡ Refused r → Between 1 5 (r .number) ⊎ Between 10 13 (r .number)
-  either (no-job {r = q} b) h = inl (as-number (Between 1 5) h (job-numbered job q b))
-  either (none f s) h = inr (late (none f s) f h)
-  either (whole f s l) h = planned-not-refused h
-  either (short f s l) h = inr (late (short f s l) f h)
-  either (small f l) h = inr (late (small f l) f h)
+  abbrev Number : ℕ → Type 0
+  Number k = Between 1 5 k ⊎ (k ≡ 14) ⊎ Between 10 13 k
 
-  kept : {e : SearchEnd} → Way job table buffer e → {r : Refusal} → e .result ≡ Refused r → e .plan ≡ buffer
-  kept (no-job b) h = refl
+  any : {e : SearchEnd} → Way call table buffer e → {r : Refusal} → e .result ≡ Refused r → Number (r .number)
+  any (not-taken {r = q} b) h = as-number Number h (call-numbered Number (λ k l. inl l) (inr (inl refl)) call q b)
+  any (none f s) h = inr (inr (late (none f s) f h))
+  any (whole f s l) h = planned-not-refused h
+  any (short f s l) h = inr (inr (late (short f s l) f h))
+  any (small f l) h = inr (inr (late (small f l) f h))
+
+  kept : {e : SearchEnd} → Way call table buffer e → {r : Refusal} → e .result ≡ Refused r → e .plan ≡ buffer
+  kept (not-taken b) h = refl
   kept (none f s) h = refl
   kept (whole f s l) h = planned-not-refused h
   kept (short f s l) h = refl
   kept (small f l) h = refl
 
-  untouched : {e : SearchEnd} → Way job table buffer e → (Accepted job → ⊥) → e .table ≡ table
-  untouched (no-job b) n = refl
+  untouched : {e : SearchEnd} → Way call table buffer e → (Taken call → ⊥) → e .table ≡ table
+  untouched (not-taken b) n = refl
   untouched (none f s) n = absurd (n f)
   untouched (whole f s l) n = absurd (n f)
   untouched (short f s l) n = absurd (n f)
   untouched (small f l) n = absurd (n f)
 
-  zeros : {e : SearchEnd} → Way job table buffer e → Accepted job → e .table ≡ cleared table
-  zeros (no-job b) fine = absurd (bad-not-fine (sym b ∙ fine))
+  zeros : {e : SearchEnd} → Way call table buffer e → Taken call → e .table ≡ cleared table
+  zeros (not-taken b) fine = absurd (bad-not-fine (sym b ∙ fine))
   zeros (none f s) fine = refl
   zeros (whole f s l) fine = refl
   zeros (short f s l) fine = refl
   zeros (small f l) fine = refl
 
-  pub search-refuses : (e : SearchEnd) → SearchGives job table buffer e → SearchRefuses job table buffer e
+  pub search-refuses : (e : SearchEnd) → SearchGives call table buffer e → SearchRefuses call table buffer e
   unfolding cleared
   search-refuses e g =
-      let w = way job table buffer g in
+      let w = way call table buffer g in
       record {
-        numbers = either w;
-        not-accepted = early w;
-        accepted = late w;
+        numbers = any w;
+        not-taken = early w;
+        taken = late w;
         buffer-kept = kept w;
         table-kept = untouched w;
         table-zero = zeros w;
@@ -101,35 +118,43 @@ module _ (job table buffer : List ℕ) where
 
 -- ---- a read-through
 
-module _ (job p : List ℕ) where
+module _ (call : Call) (p : List ℕ) where
+  abbrev Listed : ℕ → Type 0
+  Listed k = Between 1 9 k ⊎ Between 14 15 k
+
+  listed : {k : ℕ} → Between 6 9 k ⊎ (k ≡ 15) → Listed k
+  listed (inl l) = inl (omega (arith, l .0), l .1)
+  listed (inr e) = inr (omega arith, omega arith)
+
   -- The result goes by the two verdicts.
-  by-verdicts : (u v : Verdict) → jobVerdict job ≡ u → stepsVerdict (jobOf job) p ≡ v → ReadThroughRefuses job (validated job p)
+  by-verdicts : (u v : Verdict) → callVerdict call ≡ u → stepsVerdict (jobOf (call .bytes)) p (usableIn call) ≡ v
+      → ReadThroughRefuses call (validated call p)
   unfolding validated orElse
   by-verdicts (Bad q) v eu ev =
-      let is : validated job p ≡ NotPassed q = rw (eu, validated) in
-      let n = job-numbered job q eu in
+      let is : validated call p ≡ NotPassed q = rw (eu, validated) in
+      let n = call-numbered Listed (λ k l. inl (l .0, omega (arith, l .1))) (inr (omega arith, omega arith)) call q eu in
       record {
-        numbers = λ {r} h. let d : q ≡ r = cc in subst (λ (x : Refusal). Between 1 9 (x .number)) d (n .0, omega (arith, n .1));
-        not-accepted = λ {r} h. let d : q ≡ r = cc in (is ∙ ap NotPassed d, job-numbered job r h);
-        accepted = λ fine. absurd (bad-not-fine (sym eu ∙ fine));
+        numbers = λ {r} h. let d : q ≡ r = cc in subst (λ (x : Refusal). Listed (x .number)) d n;
+        not-taken = λ {r} h. let d : q ≡ r = cc in is ∙ ap NotPassed d;
+        taken = λ fine. absurd (bad-not-fine (sym eu ∙ fine));
       }
   by-verdicts Fine (Bad q) eu ev =
-      let is : validated job p ≡ NotPassed q = rw (eu, validated, ev) in
-      let n = steps-numbered (jobOf job) p q ev in
+      let is : validated call p ≡ NotPassed q = rw (eu, validated, ev) in
+      let n = steps-numbered (jobOf (call .bytes)) p (usableIn call) q ev in
       record {
-        numbers = λ {r} h. let d : q ≡ r = cc in subst (λ (x : Refusal). Between 1 9 (x .number)) d (omega (arith, n .0), n .1);
-        not-accepted = λ h. absurd (bad-not-fine (sym h ∙ eu));
-        accepted = λ fine {r} h. let d : q ≡ r = cc in subst (λ (x : Refusal). Between 6 9 (x .number)) d n;
+        numbers = λ {r} h. let d : q ≡ r = cc in subst (λ (x : Refusal). Listed (x .number)) d (listed n);
+        not-taken = λ h. absurd (bad-not-fine (sym h ∙ eu));
+        taken = λ fine {r} h. let d : q ≡ r = cc in subst (λ (x : Refusal). Between 6 9 (x .number) ⊎ (x .number ≡ 15)) d n;
       }
   by-verdicts Fine Fine eu ev =
       record {
         numbers = λ h. passed-not-refused (rw (eu, validated, ev) at h);
-        not-accepted = λ h. absurd (bad-not-fine (sym h ∙ eu));
-        accepted = λ fine h. passed-not-refused (rw (eu, validated, ev) at h);
+        not-taken = λ h. absurd (bad-not-fine (sym h ∙ eu));
+        taken = λ fine h. passed-not-refused (rw (eu, validated, ev) at h);
       }
 
-  pub read-through-refuses : ReadThroughRefuses job (validated job p)
-  read-through-refuses = by-verdicts (jobVerdict job) (stepsVerdict (jobOf job) p) refl refl
+  pub read-through-refuses : ReadThroughRefuses call (validated call p)
+  read-through-refuses = by-verdicts (callVerdict call) (stepsVerdict (jobOf (call .bytes)) p (usableIn call)) refl refl
 
 -- ---- writing back
 
@@ -170,25 +195,27 @@ module _ (v a : ℕ) (rule buffer : List ℕ) where
 first-of : {k m : ℕ} {xs ys : List ℕ} → k ∷ xs ≡ m ∷ ys → m ≡ k
 first-of e = cc
 
-pub search-answer : (job table buffer : List ℕ) {table′ buffer′ out : List ℕ} {k : ℕ} → SearchAnswers job table buffer table′ buffer′ (k ∷ out)
-    → SearchAnswer k
+pub search-answer : (full : Job → ℕ → Bool) (call : Call) (table buffer : List ℕ) {table′ buffer′ out : List ℕ} {k : ℕ}
+    → SearchAnswers full call table buffer table′ buffer′ (k ∷ out) → SearchAnswer k
 unfolding searchNumbers refusalNumbers
-search-answer job table buffer {table′} {buffer′} {k = k} a = go (a .result) refl
+search-answer full call table buffer {table′} {buffer′} {k = k} a = go (a .result) refl
   where
-    refuses : SearchRefuses job table buffer (searchEnd (a .result) table′ buffer′)
-    refuses = search-refuses job table buffer (searchEnd (a .result) table′ buffer′) (a .gives)
+    refuses : SearchRefuses call table buffer (searchEnd (a .result) table′ buffer′)
+    refuses = search-refuses call table buffer (searchEnd (a .result) table′ buffer′) (a .ends .gives)
 
     go : (r : Searched) → a .result ≡ r → SearchAnswer k
     go (Planned c n) e = inl (sym (first-of (a .said ∙ ap searchNumbers e)))
-    go (Refused r) e = inr (subst (λ (x : ℕ). Between 1 5 x ⊎ Between 10 13 x) (first-of (a .said ∙ ap searchNumbers e)) (refuses .numbers e))
+    go (Refused r) e =
+        inr (subst (λ (x : ℕ). Between 1 5 x ⊎ (x ≡ 14) ⊎ Between 10 13 x) (first-of (a .said ∙ ap searchNumbers e)) (refuses .numbers e))
 
-pub validate-answer : (job p : List ℕ) {k : ℕ} {out : List ℕ} → k ∷ out ≡ validateNumbers (validated job p) → ValidateAnswer k
+pub validate-answer : (call : Call) (p : List ℕ) {k : ℕ} {out : List ℕ} → k ∷ out ≡ validateNumbers (validated call p) → ValidateAnswer k
 unfolding validateNumbers refusalNumbers
-validate-answer job p {k} said = go (validated job p) refl
+validate-answer call p {k} said = go (validated call p) refl
   where
-    go : (v : Validated) → validated job p ≡ v → ValidateAnswer k
+    go : (v : Validated) → validated call p ≡ v → ValidateAnswer k
     go (Passed c b) e = inl (sym (first-of (said ∙ ap validateNumbers e)))
-    go (NotPassed r) e = inr (subst (Between 1 9) (first-of (said ∙ ap validateNumbers e)) (read-through-refuses job p .numbers e))
+    go (NotPassed r) e =
+        inr (subst (λ (x : ℕ). Between 1 9 x ⊎ Between 14 15 x) (first-of (said ∙ ap validateNumbers e)) (read-through-refuses call p .numbers e))
 
 pub write-answer : (v a : ℕ) (rule buffer : List ℕ) {buffer′ out : List ℕ} {k : ℕ} → WriteAnswers (writtenBack v a rule buffer) buffer′ (k ∷ out)
     → WriteAnswer k

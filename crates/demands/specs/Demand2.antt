@@ -25,9 +25,10 @@ use Rattle.model.specs.exploration.Equations.{unbounded, Answer, Entries, Explo
 use Rattle.model.specs.exploration.Explore.{Entry, Of, reached}
 use Rattle.model.specs.search.Node.{Node}
 use Rattle.model.specs.search.JobSystem.{systemOf, solveJob, reachedCount}
+use Rattle.model.specs.calls.Call.{Call, callerJob}
 use Rattle.model.specs.calls.Validate.{validated}
 use Rattle.model.specs.calls.WriteBack.{WriteEnd, writtenBack}
-use Rattle.demands.specs.Demand1.{Accepted}
+use Rattle.demands.specs.Demand1.{Taken}
 
 -- ---- a rule through the worlds
 
@@ -60,17 +61,18 @@ pub record AllowedPlan (j : Job) (p : List ℕ) : Type 0 where
 abbrev pub Bytes : List ℕ → Type 0
 Bytes xs = (b : ℕ) → List·Memᴰ b xs → b < 256
 
-pub record ReadsThrough (job p : List ℕ) : Type 0 where
-  -- A list of at most 65,535 steps of an accepted job passes, with any cost and bits, exactly when it is an allowed plan.
-  pub passes : Accepted job → length p ≤ 65_535 → ((c : ℕ) × (b : ℕ) × (validated job p ≡ Passed c b)) ↔ AllowedPlan (jobOf job) p
-  pub only : {c b : ℕ} → validated job p ≡ Passed c b → Accepted job × (length p ≤ 65_535)
+pub record ReadsThrough (call : Call) (p : List ℕ) : Type 0 where
+  -- A list of at most 65,535 steps passes in a call that is taken, with any cost and bits, exactly when it is an allowed plan of the job as it is to the
+  -- caller.
+  pub passes : Taken call → length p ≤ 65_535 → ((c : ℕ) × (b : ℕ) × (validated call p ≡ Passed c b)) ↔ AllowedPlan (callerJob call) p
+  pub only : {c b : ℕ} → validated call p ≡ Passed c b → Taken call × (length p ≤ 65_535)
   -- The cost is the list's own, and "a cost sum is at most 65,535 × 65,535".
-  pub cost : {c b : ℕ} → validated job p ≡ Passed c b → c ≡ costOf (jobOf job) p
-  pub cost-most : Bytes job → {c b : ℕ} → validated job p ≡ Passed c b → c ≤ 65_535 * 65_535
+  pub cost : {c b : ℕ} → validated call p ≡ Passed c b → c ≡ costOf (jobOf (call .bytes)) p
+  pub cost-most : Bytes (call .bytes) → {c b : ℕ} → validated call p ≡ Passed c b → c ≤ 65_535 * 65_535
   -- "8 bits, bit i set exactly if the job has a hint i and the worlds meet it"
-  pub bits : {c b : ℕ} → validated job p ≡ Passed c b
-      → (i : ℕ) → (bit b i ≡ true) ↔ ((i < length (jobOf job .hints)) × Sat (worlds (jobOf job) p) 0 (getD (jobOf job .hints) i (constant False)))
-  pub eight : {c b : ℕ} → validated job p ≡ Passed c b → b < 2 ^ 8
+  pub bits : {c b : ℕ} → validated call p ≡ Passed c b → (i : ℕ) → let j = jobOf (call .bytes) in
+      (bit b i ≡ true) ↔ ((i < length (j .hints)) × Sat (worlds j p) 0 (getD (j .hints) i (constant False)))
+  pub eight : {c b : ℕ} → validated call p ≡ Passed c b → b < 2 ^ 8
 
 -- ---- writing back
 
@@ -114,14 +116,15 @@ abbrev pub Different : List Node → Type 0
 Different [] = Unit {0}
 Different (n ∷ ns) = (List·Memᴰ n ns → ⊥) × Different ns
 
--- "Hints cut as document 01 says": its nodes are those of "Pairs and hints" that have an estimate (card 2), and so is its answer.
-pub record Explored (job : List ℕ) : Type 1 where
+-- "Hints cut as document 01 says": its nodes are those of "Pairs and hints" to which steps lead that the caller may use (card 4) and that have an estimate
+-- (card 2), and so is its answer.
+pub record Explored (call : Call) : Type 1 where
   -- The nodes reached, with keys and hint remainders, solve the equations of "Pairs and hints".
-  pub solves : Explores (systemOf (jobOf job)) unbounded (Of (systemOf (jobOf job)) (reached (systemOf (jobOf job))))
+  pub solves : let S = systemOf (callerJob call) in Explores S unbounded (Of S (reached S))
   -- They are different nodes, so `reachedCount` counts them.
-  pub different : Different (nodesOf (jobOf job))
-  pub counted : reachedCount (jobOf job) ≡ length (nodesOf (jobOf job))
+  pub different : Different (nodesOf (callerJob call))
+  pub counted : reachedCount (callerJob call) ≡ length (nodesOf (callerJob call))
   -- The job's plan is the answer of these equations, and of any solution of them.
-  pub answer : Answers (systemOf (jobOf job)) (Of (systemOf (jobOf job)) (reached (systemOf (jobOf job)))) (solveJob (jobOf job))
-  pub only : (L : Entries (systemOf (jobOf job))) → Explores (systemOf (jobOf job)) unbounded L
-      → {a : Answer} → Answers (systemOf (jobOf job)) L a → solveJob (jobOf job) ≡ a
+  pub answer : let S = systemOf (callerJob call) in Answers S (Of S (reached S)) (solveJob (callerJob call))
+  pub only : (L : Entries (systemOf (callerJob call))) → Explores (systemOf (callerJob call)) unbounded L
+      → {a : Answer} → Answers (systemOf (callerJob call)) L a → solveJob (callerJob call) ≡ a

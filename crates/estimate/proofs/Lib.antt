@@ -3,5 +3,6 @@ pub mod Reading
 pub mod EndLaws
 pub mod GainLaws
 pub mod PassLaws
+pub mod UsableLaws
 pub mod Answers
 pub mod LevelLaws

@@ -8,7 +8,7 @@ use native.Mathlib.Decide.{ℕ-discrete}
 use mathlib.Core.Option.{Option, none}
 use mathlib.Core.List.{List}
 use lib.ListN.{length, getD, set, length-set}
-use lib.Seq.{getD-set-same, getD-set-other}
+use lib.Seq.{set-getD, getD-set-same, getD-set-other}
 use Rattle.model.specs.job.Job.{Job}
 use Rattle.model.specs.search.Estimate.{sooner, endOf, readied, gainOf, soonest}
 use Rattle.model.proofs.job.VerdictLaws.{getD-listOf, listOf-cong}
@@ -86,6 +86,12 @@ module _ (j : Job) (built level : ℕ) where
             at : (x : ℕ) → Dec (x ≡ i) → Low top (getD (set after i e) x 0)
             at x (yes d) = subst (λ (y : ℕ). Low top (getD (set after i e) y 0)) (sym d) (subst (Low top) (sym (getD-set-same after i e 0 m)) own-low)
             at x (no d) = subst (Low top) (sym (getD-set-other after i x e 0 d)) (k .0 .each x)
+
+    -- One action more, whose end stays and which is not sooner than the best so far.
+    pub passing-same : (after : List ℕ) (i : ℕ) (best : code.Gain) → Passing before after i best → i < A → i < length after
+        → Ending j built level (getD after i 0) i (getD after i 0) → Sooner j built (getD after i 0) i best best → Passing before after (i + 1) best
+    passing-same after i best p l m n s =
+        subst (λ (xs : List ℕ). Passing before xs (i + 1) best) (set-getD after i 0) (passing-more after i best best (getD after i 0) p l m n s)
 
     -- After the last action all are passed.
     pub passing-all : (after : List ℕ) (i : ℕ) (r : code.Gain) → i ≡ A → Passing before after i r → Passed j built level before after r

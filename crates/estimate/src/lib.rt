@@ -1,6 +1,6 @@
 // The max estimate of what is left to pay from a state (card 2, after Bonet and Geffner 2001). The facts that can be built from the state are found at a
 // rising level of cost: an action is ready at the level at which all its needed facts are built, and ends its cost after that. Each turn goes on to the
-// soonest end of an action that adds a fact which is not built.
+// soonest end of an action that adds a fact which is not built. Only the actions that the caller may use are counted (card 4).
 use job::access;
 use task::State;
 ghost use mathlib.Core.Path.{_≡_};
@@ -8,6 +8,7 @@ ghost use Prim.Native.Nat.{_≤_, _<_};
 ghost use Rattle.model.specs.declared.Verdict.the-variants.{Fine};
 ghost use Rattle.model.specs.job.Layout.{actionCount, jobOf};
 ghost use Rattle.model.specs.job.Decoding.{jobVerdict};
+ghost use Rattle.model.specs.search.Query.{query, jobFor};
 ghost use Rattle.estimate.specs.Meaning.{never, highest, Estimates};
 ghost use Rattle.estimate.specs.Turns.{AllLow, Ending, Sooner, Passed};
 
@@ -60,10 +61,11 @@ fn sooner(job: &[u8], built: u64, end: u64, i: usize, best: Gain) -> Gain
     best
 }
 
-// Writes the ends of all actions at a level, and finds the soonest gain.
-fn pass(job: &[u8], built: u64, level: u64, ends: &mut [u64; ACTIONS]) -> Gain
+// Writes the ends of the actions at a level, and finds the soonest gain. Only the actions that the caller may use are counted: action i is one of them
+// if bit i of `usable` is set.
+fn pass(job: &[u8], usable: u64, built: u64, level: u64, ends: &mut [u64; ACTIONS]) -> Gain
     requires { ⌜ (jobVerdict (now job) ≡ Fine) × (level ≤ highest) × AllLow never (now ends) ⌝ }
-    ensures { λ r. ⌜ Passed (jobOf (now (job .entry))) built level (now (ends .entry)) (now (ends .exit)) r ⌝ }
+    ensures { λ r. ⌜ Passed (jobFor (query (now (job .entry)) usable)) built level (now (ends .entry)) (now (ends .exit)) r ⌝ }
 {
     let count = access::wide(access::action_count(job));
     let mut best = Gain {
@@ -72,19 +74,21 @@ fn pass(job: &[u8], built: u64, level: u64, ends: &mut [u64; ACTIONS]) -> Gain
     };
     let mut i = 0;
     while i < count {
-        let end = end_of(job, built, level, ends[i], i);
-        ends[i] = end;
-        best = sooner(job, built, end, i, best);
+        if (usable >> i) % 2 == 1 {
+            let end = end_of(job, built, level, ends[i], i);
+            ends[i] = end;
+            best = sooner(job, built, end, i, best);
+        }
         i += 1;
     }
     best
 }
 
-// The max estimate of the state with these facts, of an accepted job. After each turn one action more has nothing left to add, so one turn more than
-// there are actions is enough.
-pub fn estimate(job: &[u8], facts: u64) -> Estimated
+// The max estimate of the state with these facts, of an accepted job; only the actions that the caller may use are counted. After each turn one action
+// more has nothing left to add, so one turn more than there are actions is enough.
+pub fn estimate(job: &[u8], usable: u64, facts: u64) -> Estimated
     requires { ⌜ jobVerdict (now job) ≡ Fine ⌝ }
-    ensures { λ r. ⌜ Estimates (jobOf (now (job .entry))) facts r ⌝ }
+    ensures { λ r. ⌜ Estimates (jobFor (query (now (job .entry)) usable)) facts r ⌝ }
 {
     let goal = access::goal(job);
     let mut ends = [NEVER; ACTIONS];
@@ -97,7 +101,7 @@ pub fn estimate(job: &[u8], facts: u64) -> Estimated
         if state.has(goal) {
             return Estimated::Cost(level);
         }
-        let gain = pass(job, built, level, &mut ends);
+        let gain = pass(job, usable, built, level, &mut ends);
         if gain.level == NEVER {
             return Estimated::Nothing;
         }

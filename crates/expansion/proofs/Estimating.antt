@@ -12,11 +12,11 @@ use Rattle.estimate.specs.Meaning.{Estimates}
 use Rattle.estimate.proofs.Answers.{estimate-some, estimate-most, estimate-none}
 use Rattle.held.specs.Held.{nodeFor, HasEstimate}
 
-module _ (job : Query) (node : List ℕ) {r : Estimated} (x : Estimates (jobFor job) (nodeFor job node .state) r) where
+module _ (job : Query) (node : List ℕ) {r : Estimated} (x : Estimates (jobFor job) (nodeFor (job .bytes) node .state) r) where
   -- A cost is the node's estimate, and fits a slot.
   pub cost-estimated : {e : ℕ} → r ≡ Cost e → HasEstimate job node e
   cost-estimated d = record { is = estimate-some _ _ x d; fits = omega (arith, estimate-most _ _ x d) }
 
   -- Without a cost the node has none.
-  pub nothing-estimated : r ≡ Nothing → nodeEstimate (jobFor job) (nodeFor job node) ≡ none
+  pub nothing-estimated : r ≡ Nothing → nodeEstimate (jobFor job) (nodeFor (job .bytes) node) ≡ none
   nothing-estimated d = estimate-none _ _ x d

@@ -20,7 +20,7 @@ module _ {job : Query} {places : ℕ} {to : Filled (sys job)} {r : Grown} {u : L
   grew-none e = g .grows ∙ ap (λ (x : Grown). grownIs job x u) e
 
   -- Otherwise the list search goes on with the slots in use.
-  pub grew-held : {m : ℕ} → r ≡ Held m → to ≡ goes-on (heldIn job m u)
+  pub grew-held : {m : ℕ} → r ≡ Held m → to ≡ goes-on (heldIn (job .bytes) m u)
   unfolding grownIs
   grew-held e = g .grows ∙ ap (λ (x : Grown). grownIs job x u) e
 

@@ -18,7 +18,13 @@ ghost use Rattle.nodes.specs.Meaning.{Applies};
 ghost use Rattle.held.specs.Held.{nodeFor};
 ghost use Rattle.held.specs.Running.{Busy};
 ghost use Rattle.expansion.specs.Arrivals.{Arriving, LeadsTo, Arrives, Relaxes};
-ghost use Rattle.expansion.specs.Growth.{followed, expanded, Grew};
+ghost use Rattle.expansion.specs.Growth.{Follows, Expands};
+
+// On which terms a search runs: the actions that the caller may use, one bit each, and how many slots the table has.
+pub struct Terms {
+    pub usable: u64,
+    pub places: usize,
+}
 
 // How many slots are in use, or that one more was wanted than there are.
 pub enum Grown {
@@ -38,8 +44,8 @@ fn relax(
     node: [u64; NODE],
     j: usize,
 )
-    requires { ⌜ Arrives (query (now job)) n (now t) i from a × (j < n) × Workspace (now job) (now work) ⌝ }
-    ensures { λ _. ⌜ Relaxes (query (now (job .entry))) n (now (t .entry)) i from a node j (now (t .exit))
+    requires { ⌜ Arrives (now job) n (now t) i from a × (j < n) × Workspace (now job) (now work) ⌝ }
+    ensures { λ _. ⌜ Relaxes (now (job .entry)) n (now (t .entry)) i from a node j (now (t .exit))
         × Workspace (now (job .entry)) (now (work .exit)) ⌝ }
 {
     if slots::is_taken(t, j) {
@@ -68,15 +74,15 @@ fn arrive(
     work: &mut [u64],
     t: &mut [u8],
     n: usize,
-    places: usize,
+    terms: Terms,
     i: usize,
     from: Slot,
     a: u8,
     node: [u64; NODE],
 ) -> Grown
-    requires { ⌜ Arriving (query (now job)) places n (now t) i from a × LeadsTo (query (now job)) from a node × Workspace (now job) (now work) ⌝ }
-    ensures { λ r. ⌜ Grew (query (now (job .entry))) places (followed (query (now (job .entry))) places n (now (t .entry)) i from a) r (now (t .exit))
-        × Workspace (now (job .entry)) (now (work .exit)) ⌝ }
+    requires { ⌜ Arriving (query (now job) (terms .usable)) (terms .places) n (now t) i from a
+        × LeadsTo (query (now job) (terms .usable)) from a node × Workspace (now job) (now work) ⌝ }
+    ensures { λ r. ⌜ Follows (now (job .entry)) terms n (now (t .entry)) i from a r (now (t .exit)) × Workspace (now (job .entry)) (now (work .exit)) ⌝ }
 {
     match lookup::find(t, n, node) {
         Found::At(j) => {
@@ -84,10 +90,10 @@ fn arrive(
             Grown::Held(n)
         }
         Found::Nothing => {
-            let Estimated::Cost(left) = nodes::estimate_of(job, node) else {
+            let Estimated::Cost(left) = nodes::estimate_of(job, terms.usable, node) else {
                 return Grown::Held(n);
             };
-            if n < places {
+            if n < terms.places {
                 let s = made::fresh(job, work, i, from, a, node, left);
                 slots::store(t, n, s);
                 Grown::Held(n + 1)
@@ -118,15 +124,14 @@ fn follow(
     work: &mut [u64],
     t: &mut [u8],
     n: usize,
-    places: usize,
+    terms: Terms,
     i: usize,
     from: Slot,
     a: u8,
 ) -> Grown
-    requires { ⌜ Arriving (query (now job)) places n (now t) i from a × Applies (jobFor (query (now job))) (nodeFor (query (now job)) (from .node)) a
-        × Workspace (now job) (now work) ⌝ }
-    ensures { λ r. ⌜ Grew (query (now (job .entry))) places (followed (query (now (job .entry))) places n (now (t .entry)) i from a) r (now (t .exit))
-        × Workspace (now (job .entry)) (now (work .exit)) ⌝ }
+    requires { ⌜ Arriving (query (now job) (terms .usable)) (terms .places) n (now t) i from a
+        × Applies (jobFor (query (now job) (terms .usable))) (nodeFor (now job) (from .node)) a × Workspace (now job) (now work) ⌝ }
+    ensures { λ r. ⌜ Follows (now (job .entry)) terms n (now (t .entry)) i from a r (now (t .exit)) × Workspace (now (job .entry)) (now (work .exit)) ⌝ }
 {
     let at = from.node;
     let to = nodes::next(job, work, at, a);
@@ -137,32 +142,24 @@ fn follow(
     if same_node(node, at) {
         return Grown::Held(n);
     }
-    arrive(job, work, t, n, places, i, from, a, node)
+    arrive(job, work, t, n, terms, i, from, a, node)
 }
 
-// All applicable actions in order. The slot is read once: being taken, it does not change while it is expanded. Whether an action was chosen is
-// tested here and not in follow, so that nothing is copied for one that was not.
-pub fn expand(
-    job: &[u8],
-    work: &mut [u64],
-    t: &mut [u8],
-    n: usize,
-    places: usize,
-    i: usize,
-) -> Grown
-    requires { ⌜ Busy (query (now job)) places n (now t) i 0 × Workspace (now job) (now work) ⌝ }
-    ensures { λ r. ⌜ Grew (query (now (job .entry))) places (expanded (query (now (job .entry))) places n (now (t .entry)) i) r (now (t .exit))
-        × Workspace (now (job .entry)) (now (work .exit)) ⌝ }
+// All actions in order that are applicable and that the caller may use. The slot is read once: being taken, it does not change while it is expanded.
+// Whether an action was chosen is tested here and not in follow, so that nothing is copied for one that was not.
+pub fn expand(job: &[u8], work: &mut [u64], t: &mut [u8], n: usize, terms: Terms, i: usize) -> Grown
+    requires { ⌜ Busy (query (now job) (terms .usable)) (terms .places) n (now t) i 0 × Workspace (now job) (now work) ⌝ }
+    ensures { λ r. ⌜ Expands (now (job .entry)) terms n (now (t .entry)) i r (now (t .exit)) × Workspace (now (job .entry)) (now (work .exit)) ⌝ }
 {
     let from = slots::load(t, i);
     let count = access::action_count(job);
     let at = from.node;
-    let mut choices = nodes::choices(job, at);
+    let mut choices = nodes::choices(job, terms.usable, at);
     let mut held = n;
     let mut a = 0;
     while a < count {
         if choices % 2 == 1 {
-            let Grown::Held(m) = follow(job, work, t, held, places, i, from, a) else {
+            let Grown::Held(m) = follow(job, work, t, held, terms, i, from, a) else {
                 return Grown::Full;
             };
             held = m;

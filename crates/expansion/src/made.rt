@@ -5,16 +5,16 @@ use task::Key;
 ghost use mathlib.Core.Path.{_≡_};
 ghost use Prim.Native.Nat.{_<_};
 ghost use Rattle.model.specs.job.Layout.{constraintCount, hintCount};
-ghost use Rattle.model.specs.search.Query.{query};
 ghost use Rattle.progression.specs.Workspace.{Workspace};
 ghost use Rattle.nodes.specs.Meaning.{Clean, Carries};
-ghost use Rattle.held.specs.Held.{HasEstimate, Sound};
-ghost use Rattle.expansion.specs.Arrivals.{openSlot, Extends, Reaches, Makes, keyBy, hintsBy, newcomer, joined, Arrives, Ties};
+ghost use Rattle.table.specs.Slots.{Narrow};
+ghost use Rattle.held.specs.Held.{Formed, FitsSlot};
+ghost use Rattle.expansion.specs.Arrivals.{openSlot, Extends, Reaches, Makes, keyBy, hintsBy, newcomer, Joins, joined};
 
 // The key of an arrival: the sum fits, since costs are sums of as many 16-bit numbers as there are steps.
 pub fn key_of(job: &[u8], from: Slot, a: u8) -> Key
-    requires { ⌜ Extends (query (now job)) from a ⌝ }
-    ensures { λ r. ⌜ Reaches (keyBy (query (now (job .entry))) from a) r ⌝ }
+    requires { ⌜ Extends (now job) from a ⌝ }
+    ensures { λ r. ⌜ Reaches (keyBy (now (job .entry)) from a) r ⌝ }
 {
     let key = Key {
         cost: from.cost,
@@ -25,8 +25,8 @@ pub fn key_of(job: &[u8], from: Slot, a: u8) -> Key
 
 // The hint residuals of an arrival at a node.
 fn hints_of(job: &[u8], work: &mut [u64], from: Slot, a: u8, node: [u64; NODE]) -> [u64; 8]
-    requires { ⌜ Extends (query (now job)) from a × Workspace (now job) (now work) ⌝ }
-    ensures { λ r. ⌜ Carries (hintCount (now (job .entry))) (hintsBy (query (now (job .entry))) from a node) r
+    requires { ⌜ Extends (now job) from a × Workspace (now job) (now work) ⌝ }
+    ensures { λ r. ⌜ Carries (hintCount (now (job .entry))) (hintsBy (now (job .entry)) from a node) r
         × Workspace (now (job .entry)) (now (work .exit)) ⌝ }
 {
     let hints = from.hints;
@@ -68,9 +68,9 @@ pub fn fresh(
     node: [u64; NODE],
     estimate: u64,
 ) -> Slot
-    requires { ⌜ Extends (query (now job)) from a × (i < 65536) × Clean (constraintCount (now job)) node × HasEstimate (query (now job)) node estimate
+    requires { ⌜ Extends (now job) from a × (i < 65536) × Clean (constraintCount (now job)) node × FitsSlot estimate
         × Workspace (now job) (now work) ⌝ }
-    ensures { λ r. ⌜ Makes (query (now (job .entry))) (newcomer (query (now (job .entry))) i from a node node) r
+    ensures { λ r. ⌜ Makes (now (job .entry)) (newcomer (now (job .entry)) i from a node node) estimate r
         × Workspace (now (job .entry)) (now (work .exit)) ⌝ }
 {
     let key = key_of(job, from, a);
@@ -90,9 +90,9 @@ pub fn replaced(
     key: Key,
     old: Slot,
 ) -> Slot
-    requires { ⌜ Extends (query (now job)) from a × (i < 65536) × Reaches (keyBy (query (now job)) from a) key × Sound (query (now job)) old
+    requires { ⌜ Extends (now job) from a × (i < 65536) × Reaches (keyBy (now job) from a) key × Formed (now job) old × Narrow old
         × Workspace (now job) (now work) ⌝ }
-    ensures { λ r. ⌜ Makes (query (now (job .entry))) (newcomer (query (now (job .entry))) i from a node (old .node)) r
+    ensures { λ r. ⌜ Makes (now (job .entry)) (newcomer (now (job .entry)) i from a node (old .node)) (old .estimate) r
         × Workspace (now (job .entry)) (now (work .exit)) ⌝ }
 {
     let hints = hints_of(job, work, from, a, node);
@@ -112,8 +112,8 @@ pub fn merged(
     node: [u64; NODE],
     old: Slot,
 ) -> Slot
-    requires { ⌜ Arrives (query (now job)) n (now t) i from a × Ties (query (now job)) n (now t) from a old × Workspace (now job) (now work) ⌝ }
-    ensures { λ r. ⌜ Makes (query (now (job .entry))) (joined (query (now (job .entry))) n (now (t .entry)) i from a node old) r
+    requires { ⌜ Extends (now job) from a × Joins (now job) n (now t) i old × Workspace (now job) (now work) ⌝ }
+    ensures { λ r. ⌜ Makes (now (job .entry)) (joined (now (job .entry)) n (now (t .entry)) i from a node old) (old .estimate) r
         × Workspace (now (job .entry)) (now (work .exit)) ⌝ }
 {
     let held = old.hints;

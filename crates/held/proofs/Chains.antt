@@ -22,9 +22,9 @@ use Rattle.held.proofs.HeldLaws.{held-map, all-held-at, all-held-is}
 
 -- ---- any slots, whose records are a search's table
 
-module _ (job : Query) {m0 : Node} (ss : List Slot) {P : Entry (sys job) → Type 0} (inv : Inv (sys job) m0 (map (heldIs job) ss) P) where
+module _ (job : Query) {m0 : Node} (ss : List Slot) {P : Entry (sys job) → Type 0} (inv : Inv (sys job) m0 (map (heldIs (job .bytes)) ss) P) where
   abbrev T : Table (sys job)
-  T = map (heldIs job) ss
+  T = map (heldIs (job .bytes)) ss
 
   abbrev at : ℕ → Slot
   at i = getD ss i noSlot
@@ -33,8 +33,8 @@ module _ (job : Query) {m0 : Node} (ss : List Slot) {P : Entry (sys job) → Typ
   parent-in : (i m : ℕ) → i < length ss → stepsAt ss i ≡ suc m → (parentAt ss i < length ss) × (stepsAt ss (parentAt ss i) ≡ m)
   unfolding heldIs
   parent-in i m l e =
-      let k : Linked (sys job) T (heldIs job (at i)) = steps-linked (sys job) inv i (heldIs job (at i)) (all-held-at job ss i l) e in
-      let q = all-held-is job ss (parentAt ss i) (k .held) in
+      let k : Linked (sys job) T (heldIs (job .bytes) (at i)) = steps-linked (sys job) inv i (heldIs (job .bytes) (at i)) (all-held-at (job .bytes) ss i l) e in
+      let q = all-held-is (job .bytes) ss (parentAt ss i) (k .held) in
       let s : k .source .key .steps ≡ stepsAt ss (parentAt ss i) = ap (λ (r : Held (sys job)). r .key .steps) (q .1) in
       (q .0, omega (arith, linked-steps (sys job) k))
 
@@ -46,13 +46,14 @@ module _ (job : Query) {m0 : Node} (ss : List Slot) {P : Entry (sys job) → Typ
       let e : stepsAt ss i ≡ suc (stepsAt ss i - 1) = omega arith in
       let q = parent-in i (stepsAt ss i - 1) l e in
       let p = path-in m (parentAt ss i) (q .0) (omega (arith, q .1)) in
-      path-suc (sys job) T m i (all-held-at job ss i l) ∙ ap (λ (z : List ℕ). z ++ (actionAt ss i ∷ [])) p
+      path-suc (sys job) T m i (all-held-at (job .bytes) ss i l) ∙ ap (λ (z : List ℕ). z ++ (actionAt ss i ∷ [])) p
 
   -- Equal paths of equally many steps are those of one slot.
   path-one : (i j m : ℕ) → stepsAt ss i ≡ m → stepsAt ss j ≡ m → slotPath ss m i ≡ slotPath ss m j → i < length ss → j < length ss → i ≡ j
   unfolding heldIs
   path-one i j m e f p l k =
-      path-slot (sys job) inv m i j (heldIs job (at i)) (heldIs job (at j)) (all-held-at job ss i l) (all-held-at job ss j k) e f
+      path-slot (sys job) inv m i j (heldIs (job .bytes) (at i)) (heldIs (job .bytes) (at j))
+      (all-held-at (job .bytes) ss i l) (all-held-at (job .bytes) ss j k) e f
       (path-in m i l (omega arith) ∙ p ∙ sym (path-in m j k (omega arith)))
 
   chained-in : Chained ss
@@ -60,30 +61,31 @@ module _ (job : Query) {m0 : Node} (ss : List Slot) {P : Entry (sys job) → Typ
 
 -- ---- the first n slots of a table
 
-module _ (job : Query) {m0 : Node} (n : ℕ) (t : List ℕ) {P : Entry (sys job) → Type 0} (inv : Inv (sys job) m0 (heldIn job n t) P) where
-  inv-map : Inv (sys job) m0 (map (heldIs job) (take n (slots t))) P
-  inv-map = subst (λ (u : Table (sys job)). Inv (sys job) m0 u P) (held-map job n t) inv
+module _ (job : Query) {m0 : Node} (n : ℕ) (t : List ℕ) {P : Entry (sys job) → Type 0} (inv : Inv (sys job) m0 (heldIn (job .bytes) n t) P) where
+  inv-map : Inv (sys job) m0 (map (heldIs (job .bytes)) (take n (slots t))) P
+  inv-map = subst (λ (u : Table (sys job)). Inv (sys job) m0 u P) (held-map (job .bytes) n t) inv
 
   -- They are chained.
   pub chained : Chained (take n (slots t))
   chained = chained-in job (take n (slots t)) inv-map
 
   -- The last m actions that lead to slot i are the same for the records and the slots.
-  pub path-held : n * slotBytes ≤ length t → (m i : ℕ) → i < n → m ≤ slotAt t i .steps → pathOf (sys job) (heldIn job n t) m i ≡ slotPath (take n (slots t)) m i
+  pub path-held : n * slotBytes ≤ length t → (m i : ℕ) → i < n → m ≤ slotAt t i .steps
+      → pathOf (sys job) (heldIn (job .bytes) n t) m i ≡ slotPath (take n (slots t)) m i
   path-held h m i l k =
       let a : i < length (take n (slots t)) = omega (arith, length-first t n h) in
       let b : stepsAt (take n (slots t)) i ≡ slotAt t i .steps = ap (λ (s : Slot). s .steps) (first-at t n i l) in
-      rw (held-map job n t) (path-in job (take n (slots t)) inv-map m i a (omega arith))
+      rw (held-map (job .bytes) n t) (path-in job (take n (slots t)) inv-map m i a (omega arith))
 
   -- Of two ways of k steps, by slot i and action a and by slot j and action b, the order is that of the slots' paths.
   pub order-held : n * slotBytes ≤ length t → (k i a j b : ℕ) → i < n → j < n → k ≡ suc (slotAt t i .steps) → k ≡ suc (slotAt t j .steps)
-      → earlier (pathBy (sys job) (heldIn job n t) k i a) (pathBy (sys job) (heldIn job n t) k j b) ≡ orderBy (take n (slots t)) i a j b
+      → earlier (pathBy (sys job) (heldIn (job .bytes) n t) k i a) (pathBy (sys job) (heldIn (job .bytes) n t) k j b) ≡ orderBy (take n (slots t)) i a j b
   order-held h k i a j b l m e f =
       let ss = take n (slots t) in
       let d : stepsAt ss i ≡ slotAt t i .steps = ap (λ (s : Slot). s .steps) (first-at t n i l) in
       let c : k ≡ suc (stepsAt ss i) = omega arith in
-      let p : pathBy (sys job) (heldIn job n t) k i a ≡ slotPath ss (stepsAt ss i) i ++ (a ∷ []) =
-      pathBy-suc (sys job) (heldIn job n t) (stepsAt ss i) i a c ∙ ap (λ (z : List ℕ). z ++ (a ∷ [])) (path-held h (stepsAt ss i) i l (omega arith)) in
-      let q : pathBy (sys job) (heldIn job n t) k j b ≡ slotPath ss (stepsAt ss i) j ++ (b ∷ []) =
-      pathBy-suc (sys job) (heldIn job n t) (stepsAt ss i) j b c ∙ ap (λ (z : List ℕ). z ++ (b ∷ [])) (path-held h (stepsAt ss i) j m (omega arith)) in
+      let p : pathBy (sys job) (heldIn (job .bytes) n t) k i a ≡ slotPath ss (stepsAt ss i) i ++ (a ∷ []) =
+      pathBy-suc (sys job) (heldIn (job .bytes) n t) (stepsAt ss i) i a c ∙ ap (λ (z : List ℕ). z ++ (a ∷ [])) (path-held h (stepsAt ss i) i l (omega arith)) in
+      let q : pathBy (sys job) (heldIn (job .bytes) n t) k j b ≡ slotPath ss (stepsAt ss i) j ++ (b ∷ []) =
+      pathBy-suc (sys job) (heldIn (job .bytes) n t) (stepsAt ss i) j b c ∙ ap (λ (z : List ℕ). z ++ (b ∷ [])) (path-held h (stepsAt ss i) j m (omega arith)) in
       ap₂ (λ (x y : List ℕ). earlier x y) p q

@@ -85,13 +85,19 @@ module _ (S : System) where
             omega (arith, w .3))
 
         go : Line n → Line (suc n)
-        go a = (i ∷ a .0, omega (arith, a .1), ((r, h, y, omega arith), all-map _ _ (λ s w. (w .0, w .1, w .2, omega (arith, w .3))) (a .0) (a .2)), (all-map _ _ other (a .0) (a .2), a .3))
+        go a = (
+          i ∷ a .0,
+          omega (arith, a .1),
+          ((r, h, y, omega arith), all-map _ _ (λ s w. (w .0, w .1, w .2, omega (arith, w .3))) (a .0) (a .2)),
+          (all-map _ _ other (a .0) (a .2), a .3),
+        )
 
     -- A taken record has fewer steps than there are taken records.
     pub taken-steps : (i : ℕ) (r : Held S) → Holds t i r → r .taken ≡ true → r .key .steps < takenIn S t
     taken-steps i r h y =
         let a = line (r .key .steps) i r h y refl in
-        let l = apart-length eqb eqb-true (λ n. eq-eqb n n refl) (takenFrom t 0) (a .0) (all-map _ _ (λ s w. taken-mem t 0 s s (w .0) (w .1) (w .2) (omega arith)) (a .0) (a .2)) (a .3) in
+        let l = apart-length eqb eqb-true (λ n. eq-eqb n n refl) (takenFrom t 0) (a .0)
+        (all-map _ _ (λ s w. taken-mem t 0 s s (w .0) (w .1) (w .2) (omega arith)) (a .0) (a .2)) (a .3) in
         omega (arith, a .1, taken-length t 0)
 
     -- Where a record is open or a slot is free, one step more has 16 bits.
@@ -102,16 +108,18 @@ module _ (S : System) where
 
 -- ---- the same of slots
 
-module _ (job : Query) {m0 : Node} (n : ℕ) (t : List ℕ) {P : Entry (sys job) → Type 0} (inv : Inv (sys job) m0 (heldIn job n t) P)
+module _ (job : Query) {m0 : Node} (n : ℕ) (t : List ℕ) {P : Entry (sys job) → Type 0} (inv : Inv (sys job) m0 (heldIn (job .bytes) n t) P)
     (room : n * slotBytes ≤ length t) where
   -- Slot i is taken, and another is open or free: one step more has 16 bits.
-  pub next-fits : {places : ℕ} (i : ℕ) → i < n → slotAt t i .taken ≡ true → ((j : ℕ) × (j < n) × (slotAt t j .taken ≡ false)) ⊎ (n < places) → n ≤ places → places ≤ 65536
+  pub next-fits : {places : ℕ} (i : ℕ) → i < n → slotAt t i .taken ≡ true → ((j : ℕ) × (j < n) × (slotAt t j .taken ≡ false)) ⊎ (n < places)
+      → n ≤ places → places ≤ 65536
       → slotAt t i .steps + 1 < 65536
   unfolding heldIs
   next-fits {places} i l y o h m =
-      next-steps (sys job) inv {places = places} i (heldIs job (slotAt t i)) (held-at job n t i l room) y (go o) (omega (arith, length-held job n t room)) m
+      next-steps (sys job) inv {places = places} i (heldIs (job .bytes) (slotAt t i)) (held-at (job .bytes) n t i l room) y (go o)
+      (omega (arith, length-held (job .bytes) n t room)) m
     where
       go : ((j : ℕ) × (j < n) × (slotAt t j .taken ≡ false)) ⊎ (n < places)
-          → ((j : ℕ) × (q : Held (sys job)) × Holds (heldIn job n t) j q × (q .taken ≡ false)) ⊎ (length (heldIn job n t) < places)
-      go (inl p) = inl (p .0, heldIs job (slotAt t (p .0)), held-at job n t (p .0) (p .1) room, p .2)
-      go (inr p) = inr (omega (arith, length-held job n t room))
+          → ((j : ℕ) × (q : Held (sys job)) × Holds (heldIn (job .bytes) n t) j q × (q .taken ≡ false)) ⊎ (length (heldIn (job .bytes) n t) < places)
+      go (inl p) = inl (p .0, heldIs (job .bytes) (slotAt t (p .0)), held-at (job .bytes) n t (p .0) (p .1) room, p .2)
+      go (inr p) = inr (omega (arith, length-held (job .bytes) n t room))

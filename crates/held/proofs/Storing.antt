@@ -44,7 +44,7 @@ module _ (t u : List ℕ) (j : ℕ) (s : Slot) (e : slots u ≡ set (slots t) j 
   pub first-more : j * slotBytes + slotBytes ≤ length t → take (j + 1) (slots u) ≡ take j (slots t) ++ (s ∷ [])
   first-more h = rw (e, add-one) (take-suc-set (slots t) j s (slot-inside t j h))
 
-module _ (job : Query) (t u : List ℕ) (j : ℕ) (s : Slot) (e : slots u ≡ set (slots t) j s) where
+module _ (job : List ℕ) (t u : List ℕ) (j : ℕ) (s : Slot) (e : slots u ≡ set (slots t) j s) where
   -- Stored in place of another slot, it changes that slot's record.
   pub store-held : (n : ℕ) → j < n → heldIn job n u ≡ set (heldIn job n t) j (heldIs job s)
   store-held n l = rw (held-map job n u, held-map job n t, first-set t u j s e n l) (map-set (heldIs job) (take n (slots t)) j s)
@@ -53,6 +53,7 @@ module _ (job : Query) (t u : List ℕ) (j : ℕ) (s : Slot) (e : slots u ≡ se
   pub append-held : j * slotBytes + slotBytes ≤ length t → heldIn job (j + 1) u ≡ heldIn job j t ++ (heldIs job s ∷ [])
   append-held h = rw (held-map job (j + 1) u, held-map job j t, first-more t u j s e h) (map-snoc (heldIs job) (take j (slots t)) s)
 
+module _ (job : Query) (t u : List ℕ) (j : ℕ) (s : Slot) (e : slots u ≡ set (slots t) j s) where
   -- All slots stay sound if a sound one is stored among them.
   pub store-sound : (n : ℕ) → j < n → Sound job s → SoundTo job n t → SoundTo job n u
   store-sound n l p h = rw (first-set t u j s e n l) (all-set (Sound job) (take n (slots t)) j s p h)
@@ -64,20 +65,25 @@ module _ (job : Query) (t u : List ℕ) (j : ℕ) (s : Slot) (e : slots u ≡ se
 -- ---- slot i marked as taken
 
 module _ (job : Query) where
-  taken-held : (s : Slot) → heldIs job (takenSlot s) ≡ take-it (sys job) (heldIs job s)
+  taken-held : (s : Slot) → heldIs (job .bytes) (takenSlot s) ≡ take-it (sys job) (heldIs (job .bytes) s)
   unfolding heldIs takenSlot take-it
   taken-held s = refl
 
   taken-sound : (s : Slot) → Sound job s → Sound job (takenSlot s)
   unfolding takenSlot
-  taken-sound s h = record { clean = h .clean; cleanHints = h .cleanHints; marked = h .marked; estimated = h .estimated; summed = h .summed }
+  taken-sound s h =
+      let f = h .formed in
+      record {
+        formed = record { clean = f .clean; cleanHints = f .cleanHints; marked = f .marked; summed = f .summed };
+        estimated = h .estimated;
+      }
 
 module _ (job : Query) (t u : List ℕ) (i : ℕ) (e : slots u ≡ set (slots t) i (takenSlot (slotAt t i))) (n : ℕ) (l : i < n) (h : n * slotBytes ≤ length t) where
   -- The record of a slot that was marked is taken.
-  pub mark-held : heldIn job n u ≡ mark (sys job) (heldIn job n t) i
+  pub mark-held : heldIn (job .bytes) n u ≡ mark (sys job) (heldIn (job .bytes) n t) i
   mark-held =
-      store-held job t u i (takenSlot (slotAt t i)) e n l ∙ ap (set (heldIn job n t) i) (taken-held job (slotAt t i))
-      ∙ sym (mark-is (sys job) (heldIn job n t) i (held-at job n t i l h))
+      store-held (job .bytes) t u i (takenSlot (slotAt t i)) e n l ∙ ap (set (heldIn (job .bytes) n t) i) (taken-held job (slotAt t i))
+      ∙ sym (mark-is (sys job) (heldIn (job .bytes) n t) i (held-at (job .bytes) n t i l h))
 
   -- All slots stay sound if one is marked.
   pub mark-sound : SoundTo job n t → SoundTo job n u

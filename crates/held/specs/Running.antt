@@ -25,9 +25,9 @@ pub record Running (job : Query) (m0 : Node) (places n : ℕ) (table : List ℕ)
 
 -- between two turns of the search
 abbrev pub Idle : Query → ℕ → ℕ → List ℕ → Type 0
-Idle job places n table = (m0 : Node) × Running job m0 places n table × Ready (sys job) places m0 (heldIn job n table)
+Idle job places n table = (m0 : Node) × Running job m0 places n table × Ready (sys job) places m0 (heldIn (job .bytes) n table)
 
 -- slot i is taken and is being expanded: its actions below c were followed
 abbrev pub Busy : Query → ℕ → ℕ → List ℕ → ℕ → ℕ → Type 0
 Busy job places n table i c =
-    (m0 : Node) × Running job m0 places n table × (i < n) × Expanding (sys job) m0 (heldIn job n table) i (heldIs job (slotAt table i)) c
+    (m0 : Node) × Running job m0 places n table × (i < n) × Expanding (sys job) m0 (heldIn (job .bytes) n table) i (heldIs (job .bytes) (slotAt table i)) c

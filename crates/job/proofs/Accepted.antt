@@ -13,7 +13,7 @@ use Rattle.model.specs.job.Job.{Action, actionOf, noAction}
 use Rattle.model.specs.job.Layout.{factCount, actionCount, constraintCount, hintCount, pairCount, pairOffset, pairLength, sectionBytes, actionAt, formulaIn, formulaAt, jobOf}
 use Rattle.model.specs.job.Decoding.{formulaVerdict, jobVerdict}
 use Rattle.model.proofs.logic.ReadingLaws.{section-from, parsed-wider}
-use Rattle.model.proofs.job.VerdictLaws.{length-listOf, getD-listOf}
+use Rattle.model.proofs.job.VerdictLaws.{getD-listOf}
 use Rattle.model.proofs.job.Accepted.{section-fine, accepted-checks, each-formula}
 use Rattle.job.specs.Laid.{Laid, Formulated}
 use Rattle.job.proofs.Bounds.{laid}
@@ -52,20 +52,6 @@ action-of bytes i l = getD-listOf (actionAt bytes) (actionCount bytes) i noActio
 pub field-read : (bytes : List ℕ) {i k : ℕ} → k ≡ i → i < actionCount bytes → (f : Action → ℕ) {x : ℕ} → x ≡ f (actionAt bytes k)
     → x ≡ f (actionOf (jobOf bytes) i)
 field-read bytes {i} e l f h = rw (action-of bytes i l, ← e) h
-
--- There are as many actions and formulas as the head says.
-module _ (bytes : List ℕ) where
-  pub length-actions : length (jobOf bytes .actions) ≡ actionCount bytes
-  unfolding jobOf
-  length-actions = length-listOf _ (actionCount bytes)
-
-  pub length-constraints : length (jobOf bytes .constraints) ≡ constraintCount bytes
-  unfolding jobOf
-  length-constraints = length-listOf _ (constraintCount bytes)
-
-  pub length-hints : length (jobOf bytes .hints) ≡ hintCount bytes
-  unfolding jobOf
-  length-hints = length-listOf _ (hintCount bytes)
 
 -- ---- an accepted job
 module _ (bytes : List ℕ) (h : jobVerdict bytes ≡ Fine) where

@@ -6,5 +6,6 @@ pub mod task
 pub mod exploration
 pub mod job
 pub mod estimate
+pub mod rights
 pub mod calls
 pub mod Examples

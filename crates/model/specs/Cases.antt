@@ -6,6 +6,7 @@ use lib.ListN.{length}
 use Rattle.model.specs.declared.Searched.the-variants.{Planned, Refused}
 use Rattle.model.specs.declared.Rewritten.the-variants.{Written}
 use Rattle.model.specs.Verdict.{refusal}
+use Rattle.model.specs.calls.Call.{Call, call}
 use Rattle.model.specs.calls.Search.{SearchEnd, ruled}
 use Rattle.model.specs.calls.WriteBack.{WriteEnd, writtenBack}
 
@@ -60,6 +61,10 @@ N-rule φ = withOne 0 1 0 φ
 
 -- ---- the table
 
+-- "The program lends zeros, one a step, so it may use every step"; the jobs above have three steps.
+abbrev pub byProgram : List ℕ → Call
+byProgram job = call job (0 ∷ 0 ∷ 0 ∷ []) 0
+
 -- The searches are lent a table of two bytes and a plan buffer of four, the bytes 7 and 9, so that what is zero, written and kept is seen.
 -- What is wanted of a search: the cost, the number of actions and the buffer; or a number. Of writing back: the length and the buffer.
 pub data Case : Type 0 where
@@ -96,8 +101,8 @@ pub data End : Type 0 where
 
 unfoldable pub outcome : Case → End
 unfolding ruled writtenBack
-outcome (planned job c n buffer) = searched (ruled job (7 ∷ 7 ∷ []) (9 ∷ 9 ∷ 9 ∷ 9 ∷ []))
-outcome (refused job n) = searched (ruled job (7 ∷ 7 ∷ []) (9 ∷ 9 ∷ 9 ∷ 9 ∷ []))
+outcome (planned job c n buffer) = searched (ruled (byProgram job) (7 ∷ 7 ∷ []) (9 ∷ 9 ∷ 9 ∷ 9 ∷ []))
+outcome (refused job n) = searched (ruled (byProgram job) (7 ∷ 7 ∷ []) (9 ∷ 9 ∷ 9 ∷ 9 ∷ []))
 outcome (rewritten rule n buffer) = wrote (writtenBack 3 3 rule (9 ∷ 9 ∷ 9 ∷ 9 ∷ 9 ∷ 9 ∷ 9 ∷ []))
 
 unfoldable pub wanted : Case → End

@@ -1,17 +1,22 @@
--- The actions of a job eight by eight, and the set of those that are applicable.
+-- The actions of a job eight by eight, and the set of those that are applicable and may be used.
 use mathlib.Core.Path.{_≡_, refl, sym, ap, _∙_}
+use mathlib.Core.Bool.{Bool, true, false, _&&_, and-true, and-false}
 use mathlib.Core.List.{List, [], _∷_}
-use Prim.Native.Nat.{ℕ, zero, suc, _+_, _*_, _/_, _^_, _≤_, _<_}
+use Prim.Native.Nat.{ℕ, zero, suc, _+_, _*_, _^_, _≤_, _<_}
 use native.Mathlib.Nat.{lt-of-lt-of-le}
 use native.Mathlib.Omega.{arith}
+use lib.Bits.{bitAnd}
 use lib.ListN.{length, getD, List·getD-eq-default}
 use lib.Pow.{pow-mono}
 use Rattle.model.specs.Bits.{bit, bitsOf}
 use Rattle.model.specs.job.Job.{Action, Job, noAction, actionOf}
+use Rattle.model.specs.job.Rights.{restricted}
 use Rattle.model.specs.task.State.{applicable}
 use Rattle.model.proofs.bits.BitsOf.{bitsOf-lt, bitsOf-at}
+use Rattle.model.proofs.bits.Bitwise.{bit-and}
+use Rattle.model.proofs.rights.Steps.{length-restricted, action-usable, barred-not}
 use Rattle.task.specs.Applicable.{applicableSet}
-use Rattle.nodes.specs.Meaning.{actionsFrom, choicesIn}
+use Rattle.nodes.specs.Meaning.{actionsFrom, Chooses}
 
 module _ (j : Job) where
   -- ---- the actions
@@ -80,16 +85,20 @@ module _ (j : Job) where
         let q′ : m ≡ further n = omega arith in
         rw (e, f, p′, q′) (eight-more a n)
 
-    -- All of them.
-    pub set-whole : (a n : ℕ) {r : ℕ} → r ≡ setFrom a n → a ≡ 0 → n ≡ 8 * ((length (j .actions) + 7) / 8) → r ≡ choicesIn j s
-    unfolding choicesIn
-    set-whole a n e z h = e ∙ rw (z, h) refl
+    -- Bit i of a set of all tells whether action i is applicable.
+    pub set-tells : (a n : ℕ) {x : ℕ} → x ≡ setFrom a n → a ≡ 0 → length (j .actions) ≤ n → Chooses j s x
+    set-tells a n {x} e z h i l =
+        let f : a + i ≡ i = omega arith in
+        ap (λ (y : ℕ). bit y i) e ∙ bitsOf-at (λ b. applicable b s) noAction (actionsFrom j a n) i (rw (length-from a n) (omega arith))
+        ∙ ap (λ (b : Action). applicable b s) (action-from a n i (omega arith) ∙ ap (actionOf j) f)
 
-    -- Bit i of the choices tells whether action i is applicable.
-    pub choices-tell : (i : ℕ) → i < length (j .actions) → bit (choicesIn j s) i ≡ applicable (actionOf j i) s
-    unfolding choicesIn
-    choices-tell i l =
-        let n : ℕ = 8 * ((length (j .actions) + 7) / 8) in
-        let e : 0 + i ≡ i = omega arith in
-        bitsOf-at (λ a. applicable a s) noAction (actionsFrom j 0 n) i (rw (length-from 0 n) (omega arith))
-        ∙ ap (λ (a : Action). applicable a s) (action-from 0 n i (omega arith) ∙ ap (actionOf j) e)
+  -- Without the actions that may not be used, the set tells the same of the restricted job: there those are not applicable.
+  pub usable-tell : (u s x : ℕ) → Chooses j s x → Chooses (restricted u j) s (bitAnd x u)
+  usable-tell u s x h i l = bit-and x u i ∙ go (bit u i) refl
+    where
+      known : i < length (j .actions)
+      known = rw length-restricted at l
+
+      go : (b : Bool) → bit u i ≡ b → bit x i && bit u i ≡ applicable (actionOf (restricted u j) i) s
+      go true e = ap (λ (b : Bool). bit x i && b) e ∙ and-true (bit x i) ∙ h i known ∙ ap (λ (a : Action). applicable a s) (sym (action-usable u j i e))
+      go false e = ap (λ (b : Bool). bit x i && b) e ∙ and-false (bit x i) ∙ sym (barred-not u j i known s e)

@@ -1,15 +1,15 @@
 -- What the arrays of the code stand for in the model, and what the functions promise of them.
 use mathlib.Core.Path.{_≡_}
-use Prim.Native.Nat.{ℕ, zero, suc, _+_, _*_, _/_, _<_}
+use Prim.Native.Nat.{ℕ, zero, suc, _<_}
 use mathlib.Core.Bool.{true, false}
 use mathlib.Core.Option.{Option, none, some}
 use mathlib.Core.List.{List, [], _∷_}
 use lib.ListN.{length, take, drop, getD}
+use Rattle.model.specs.Bits.{bit}
 use Rattle.model.specs.job.Job.{Action, Job, actionOf}
 use Rattle.model.specs.task.State.{applicable}
 use Rattle.model.specs.search.Node.{Node}
 use Rattle.model.specs.search.JobSystem.{alive}
-use Rattle.task.specs.Applicable.{applicableSet}
 use Rattle.task.specs.declared.Action as code
 use Rattle.task.specs.Meaning.{actionIs}
 use Rattle.progression.specs.Padded.{padded}
@@ -42,16 +42,15 @@ unfolding actionOf
 actionsFrom j a zero = []
 actionsFrom j a (suc n) = actionOf j a ∷ actionsFrom j (suc a) n
 
--- the actions that are applicable in a state, looked up in whole eights: bit i is action i, and those after the job's last one do nothing
-unfoldable pub choicesIn : Job → ℕ → ℕ
-unfolding actionsFrom
-choicesIn j s = applicableSet (actionsFrom j 0 (8 * ((length (j .actions) + 7) / 8))) s
-
 -- Action i is applicable at a node.
 abbrev pub Applies : Job → Node → ℕ → Type 0
 Applies j m i = applicable (actionOf j i) (m .state) ≡ true
 
 -- ---- what the functions promise
+
+-- Bit i of a set tells of each action of a job whether it is applicable in a state; bits of no action mean nothing.
+abbrev pub Chooses : Job → ℕ → ℕ → Type 0
+Chooses j s r = (i : ℕ) → i < length (j .actions) → bit r i ≡ applicable (actionOf j i) s
 
 -- Action i of a job was read; costs have 16 bits.
 pub record Acts (j : Job) (i : ℕ) (r : code.Action) : Type 0 where

@@ -15,10 +15,11 @@ ghost use Rattle.model.specs.job.Layout.{actionCount, constraintCount, hintCoun
 ghost use Rattle.model.specs.job.Decoding.{jobVerdict};
 ghost use Rattle.model.specs.search.Node.{someDead};
 ghost use Rattle.model.specs.search.JobSystem.{startNode, nextNode, isGoal, startHints, carryHints};
+ghost use Rattle.model.specs.search.Query.{query, jobFor};
 ghost use Rattle.task.specs.Meaning.{actionIs};
 ghost use Rattle.estimate.specs.Meaning.{Estimates};
 ghost use Rattle.progression.specs.Workspace.{Workspace};
-ghost use Rattle.nodes.specs.Meaning.{nodeIs, hintsIs, actionsFrom, choicesIn, Acts, Costs, Applies, Made, Leads, Carries};
+ghost use Rattle.nodes.specs.Meaning.{nodeIs, hintsIs, actionsFrom, Chooses, Acts, Costs, Applies, Made, Leads, Carries};
 
 // What an action leads to. Where it leads nowhere, alive is false and the node, clean as any, means nothing.
 pub struct Reached {
@@ -74,11 +75,11 @@ fn eight_from(job: &[u8], first: u8) -> [Action; 8]
     ]
 }
 
-// The actions that are applicable at a node: bit i is action i, and bits of no action of the job mean nothing. The last eight are looked up first, so
-// that each next eight are the lowest bits.
-pub fn choices(job: &[u8], node: [u64; NODE]) -> u64
+// The actions that are applicable at a node and that the caller may use: bit i is action i, and bits of no action of the job mean nothing. The last eight
+// are looked up first, so that each next eight are the lowest bits.
+pub fn choices(job: &[u8], usable: u64, node: [u64; NODE]) -> u64
     requires { ⌜ jobVerdict (now job) ≡ Fine ⌝ }
-    ensures { λ r. ⌜ r ≡ choicesIn (jobOf (now (job .entry))) (nodeIs (constraintCount (now (job .entry))) node .state) ⌝ }
+    ensures { λ r. ⌜ Chooses (jobFor (query (now (job .entry)) usable)) (nodeIs (constraintCount (now (job .entry))) node .state) r ⌝ }
 {
     let facts = node[0];
     let mut set = 0;
@@ -87,7 +88,7 @@ pub fn choices(job: &[u8], node: [u64; NODE]) -> u64
         left -= 1;
         set = task::applicable_set(eight_from(job, 8 * left), facts) + 256 * set;
     }
-    set
+    set & usable
 }
 
 pub fn cost_of(job: &[u8], i: u8) -> u64
@@ -187,12 +188,12 @@ pub fn is_goal(job: &[u8], work: &mut [u64], node: [u64; NODE]) -> bool
     progression::constraints_close(job, work, residuals_of(node), facts)
 }
 
-// The estimate of the cost that is left from a node, which is that of its state; a node that has none is not reached.
-pub fn estimate_of(job: &[u8], node: [u64; NODE]) -> Estimated
+// The estimate of the cost that is left from a node by actions that the caller may use, which is that of its state; a node that has none is not reached.
+pub fn estimate_of(job: &[u8], usable: u64, node: [u64; NODE]) -> Estimated
     requires { ⌜ jobVerdict (now job) ≡ Fine ⌝ }
-    ensures { λ r. ⌜ Estimates (jobOf (now (job .entry))) (nodeIs (constraintCount (now (job .entry))) node .state) r ⌝ }
+    ensures { λ r. ⌜ Estimates (jobFor (query (now (job .entry)) usable)) (nodeIs (constraintCount (now (job .entry))) node .state) r ⌝ }
 {
-    estimate::estimate(job, node[0])
+    estimate::estimate(job, usable, node[0])
 }
 
 pub fn start_hints(job: &[u8]) -> [u64; 8]

@@ -5,32 +5,43 @@ ghost use mathlib.Core.Path.{_≡_};
 ghost use mathlib.Core.List.{_∷_};
 ghost use lib.Dec.{leb};
 ghost use Rattle.model.specs.logic.Formula.{choose};
+ghost use Rattle.model.specs.calls.Call.{call};
 ghost use Rattle.model.specs.calls.Validate.{validated};
 ghost use Rattle.model.specs.calls.WriteBack.{writtenBack};
 ghost use Rattle.model.specs.calls.Numbers.{validateNumbers, SearchAnswers, WriteAnswers};
+ghost use Rattle.search.specs.Given.{runsOut};
 
-// Looks for the job's plan: 0 with its cost and its number of steps, or the number of a refusal with its place.
+// Looks for the job's plan by the steps that the caller may use: 0 with its cost and its number of steps, or the number of a refusal with its place.
 #[no_mangle]
 pub extern "C" fn dagzhimo_search(
     job: &[u8],
+    needs: &[u8],
+    rights: u8,
     table: &mut [u8],
     plan: &mut [u8],
     out: &mut [u64; 2],
 ) -> u64
-    ensures { λ r. ⌜ SearchAnswers (now (job .entry)) (now (table .entry)) (now (plan .entry)) (now (table .exit)) (now (plan .exit))
-        (r ∷ now (out .exit)) ⌝ }
+    ensures { λ r. ⌜ SearchAnswers runsOut (call (now (job .entry)) (now (needs .entry)) rights) (now (table .entry)) (now (plan .entry))
+        (now (table .exit)) (now (plan .exit)) (r ∷ now (out .exit)) ⌝ }
 {
-    let told = search::numbers(search::search(job, table, plan));
+    let told = search::numbers(search::search(job, needs, rights, table, plan));
     *out = [told[1], told[2]];
     told[0]
 }
 
-// Walks a step list of a job: 0 with the cost and the hint bits, or the number of a refusal with its place.
+// Walks a step list of a job, for a caller: 0 with the cost and the hint bits, or the number of a refusal with its place.
 #[no_mangle]
-pub extern "C" fn dagzhimo_validate(job: &[u8], steps: &[u8], out: &mut [u64; 2]) -> u64
-    ensures { λ r. ⌜ r ∷ now (out .exit) ≡ validateNumbers (validated (now (job .entry)) (now (steps .entry))) ⌝ }
+pub extern "C" fn dagzhimo_validate(
+    job: &[u8],
+    needs: &[u8],
+    rights: u8,
+    steps: &[u8],
+    out: &mut [u64; 2],
+) -> u64
+    ensures { λ r. ⌜ r ∷ now (out .exit)
+        ≡ validateNumbers (validated (call (now (job .entry)) (now (needs .entry)) rights) (now (steps .entry))) ⌝ }
 {
-    match validate::validate(job, steps) {
+    match validate::validate(job, needs, rights, steps) {
         Validated::Passed(cost, bits) => {
             *out = [cost, words::wide(bits)];
             0

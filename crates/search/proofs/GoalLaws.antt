@@ -1,7 +1,7 @@
 -- Laws of the goals of a key, in a list of slots.
 use mathlib.Core.Path.{_≡_, refl, sym, ap, _∙_}
 use mathlib.Core.Bool.{Bool, true, false, not, _&&_, _||_}
-use mathlib.Core.List.{List, map}
+use mathlib.Core.List.{List}
 use Prim.Native.Nat.{ℕ, zero, suc, _+_, _*_, _≤_, _<_}
 use native.Mathlib.Numerals.{add-one}
 use native.Mathlib.Omega.{arith}
@@ -11,32 +11,26 @@ use lib.Seq.{drop-cons}
 use borrow.Author.Tests.{eq-eqb, ne-eqb, not-true, not-false}
 use Rattle.model.specs.logic.Formula.{choose}
 use Rattle.model.specs.exploration.Key.{Key, sameKey}
-use Rattle.model.specs.job.Layout.{hintCount}
-use Rattle.model.specs.search.Node.{someDead}
-use Rattle.model.specs.search.Query.{Query}
 use Rattle.model.specs.calls.Search.{slotBytes}
 use Rattle.model.proofs.exploration.KeyLaws.{same-key}
 use Rattle.model.proofs.Tests.{and-both}
-use Rattle.astar.specs.Search.{someCutIn}
 use Rattle.table.specs.declared.Slot.{Slot}
 use Rattle.table.specs.declared.Found.{Found}
 use Rattle.table.specs.declared.Found.the-variants.{At, Nothing}
 use Rattle.table.specs.Slots.{slotAt, noSlot}
 use Rattle.table.specs.Lookup.{keyOf}
 use Rattle.table.proofs.LookupLaws.{length-first}
-use Rattle.nodes.specs.Meaning.{hintsIs}
 use Rattle.paths.specs.Chain.{held, stepsAt, order, Level}
 use Rattle.paths.proofs.ChainLaws.{held-steps}
-use Rattle.held.specs.Held.{sys, heldIs}
-use Rattle.search.specs.GoalSlots.{due, chosen, firstDue, Behind}
+use Rattle.search.specs.GoalSlots.{slotCut, anyCut, due, chosen, firstDue, Behind}
 
 -- ---- whether a slot is due, test by test
 
-module _ (job : Query) (c s : ℕ) (x : Slot) where
+module _ (job : List ℕ) (c s : ℕ) (x : Slot) where
   -- A slot that is no goal is not due.
   pub no-goal : (g : Bool) → g ≡ x .goal → not g ≡ true → false ≡ due job c s x
   unfolding due
-  no-goal g e n = go (sameKey (keyOf (x .cost) (x .steps)) (keyOf c s)) (not (someDead (hintsIs (hintCount (job .bytes)) (x .hints)))) (sym e ∙ not-true g n)
+  no-goal g e n = go (sameKey (keyOf (x .cost) (x .steps)) (keyOf c s)) (not (slotCut job x)) (sym e ∙ not-true g n)
     where
       go : (a b : Bool) {y : Bool} → y ≡ false → false ≡ (a && b && y)
       go true true h = sym h
@@ -53,15 +47,15 @@ module _ (job : Query) (c s : ℕ) (x : Slot) where
   unfolding due sameKey
   other-steps v e n = go (eqb (x .cost) c)
     where
-      go : (b : Bool) → false ≡ (elim b [ true ↦ eqb (x .steps) s | false ↦ false ]) && not (someDead (hintsIs (hintCount (job .bytes)) (x .hints))) && x .goal
+      go : (b : Bool) → false ≡ (elim b [ true ↦ eqb (x .steps) s | false ↦ false ]) && not (slotCut job x) && x .goal
       go true = rw (ne-eqb (x .steps) s (λ q. n (e ∙ q)))
       go false = refl
 
   -- A slot of that cost and number of steps is loaded, and its hints are looked at.
   module _ (v w : ℕ) (ev : v ≡ x .cost) (ew : w ≡ x .steps) (ec : v ≡ c) (es : w ≡ s) (z : Slot) (loaded : z ≡ x) (d : Bool)
-      (cut : d ≡ someDead (hintsIs (hintCount (job .bytes)) (z .hints))) where
-    is-cut : someDead (hintsIs (hintCount (job .bytes)) (x .hints)) ≡ d
-    is-cut = sym (cut ∙ ap (λ (y : Slot). someDead (hintsIs (hintCount (job .bytes)) (y .hints))) loaded)
+      (cut : d ≡ slotCut job z) where
+    is-cut : slotCut job x ≡ d
+    is-cut = sym (cut ∙ ap (λ (y : Slot). slotCut job y) loaded)
 
     -- A goal of that cost and number of steps is due unless it is cut.
     pub is-due : (g : Bool) → g ≡ x .goal → not g ≡ false → not d ≡ due job c s x
@@ -82,7 +76,7 @@ module _ (job : Query) (c s : ℕ) (x : Slot) where
 
 -- ---- the choice between slot i and what was found after it; the test is y
 
-module _ (job : Query) (t : List ℕ) (n c s i : ℕ) (f : Found) (y : Bool) (tested : y ≡ due job c s (slotAt t i)) where
+module _ (job : List ℕ) (t : List ℕ) (n c s i : ℕ) (f : Found) (y : Bool) (tested : y ≡ due job c s (slotAt t i)) where
   abbrev Chosen : Found
   Chosen = chosen (held t n) (due job c s (slotAt t i)) i f
 
@@ -114,7 +108,7 @@ module _ (job : Query) (t : List ℕ) (n c s i : ℕ) (f : Found) (y : Bool) (te
   chosen-here b o p h q e = rw (q, sym tested ∙ not-false y h, ← p, e)
 
 -- What was found after slot i, which is due, can be compared with it.
-pub comparable : (job : Query) (t : List ℕ) (n i b c s : ℕ) (f : Found) (y : Bool) → y ≡ due job c s (slotAt t i) → not y ≡ false → f ≡ At b
+pub comparable : (job : List ℕ) (t : List ℕ) (n i b c s : ℕ) (f : Found) (y : Bool) → y ≡ due job c s (slotAt t i) → not y ≡ false → f ≡ At b
     → Behind (held t n) (i + 1) c s f
     → n * slotBytes ≤ length t → i < n → Level (held t n) n b i
 comparable job t n i b c s f y tested h e behind room g =
@@ -125,7 +119,7 @@ comparable job t n i b c s f y tested h e behind room g =
 
 -- ---- the slots from i on
 
-module _ (job : Query) (c s : ℕ) (ss : List Slot) where
+module _ (job : List ℕ) (c s : ℕ) (ss : List Slot) where
   abbrev From : ℕ → Found
   From i = firstDue job c s ss (drop i ss) i
 
@@ -139,11 +133,13 @@ module _ (job : Query) (c s : ℕ) (ss : List Slot) where
   due-more i g = rw (drop-cons ss i noSlot g)
 
   -- A turn of the loop, which counts down.
-  pub due-turn : (i k : ℕ) (x : Slot) (f r : Found) → f ≡ From k → r ≡ chosen ss (due job c s x) i f → k ≡ suc i → getD ss i noSlot ≡ x → i < length ss → r ≡ From i
+  pub due-turn : (i k : ℕ) (x : Slot) (f r : Found) → f ≡ From k → r ≡ chosen ss (due job c s x) i f
+      → k ≡ suc i → getD ss i noSlot ≡ x → i < length ss → r ≡ From i
   due-turn i k x f r e q d g h = q ∙ rw (e, d, ← g) (sym (due-more i h))
 
   -- What is chosen is slot i or was found after it.
-  chosen-from : (i : ℕ) (x : Slot) → getD ss i noSlot ≡ x → (f : Found) → Behind ss (suc i) c s f → i < length ss → Behind ss i c s (chosen ss (due job c s x) i f)
+  chosen-from : (i : ℕ) (x : Slot) → getD ss i noSlot ≡ x → (f : Found) → Behind ss (suc i) c s f → i < length ss
+      → Behind ss i c s (chosen ss (due job c s x) i f)
   unfolding chosen
   chosen-from i x g f h l = go (due job c s x) refl f h
     where
@@ -169,14 +165,14 @@ module _ (job : Query) (c s : ℕ) (ss : List Slot) where
 
 -- ---- a cut slot among all; the first i are not cut
 
-module _ (job : Query) (ss : List Slot) (i : ℕ) where
+module _ (job : List ℕ) (ss : List Slot) (i : ℕ) where
   abbrev CutIn : List Slot → Bool
-  CutIn xs = someCutIn (sys job) (map (heldIs job) xs)
+  CutIn xs = anyCut job xs
 
-  module _ (x : Slot) (d : Bool) (rest : CutIn ss ≡ CutIn (drop i ss)) (at : getD ss i noSlot ≡ x) (cut : d ≡ sys job .cut (heldIs job x .hints)) (inside : i < length ss) where
+  module _ (x : Slot) (d : Bool) (rest : CutIn ss ≡ CutIn (drop i ss)) (at : getD ss i noSlot ≡ x) (cut : d ≡ slotCut job x) (inside : i < length ss) where
     -- Slot i is cut, or one after it, exactly if any is.
     front : CutIn ss ≡ d || CutIn (drop (suc i) ss)
-    unfolding someCutIn
+    unfolding anyCut
     front = rest ∙ rw (drop-cons ss i noSlot inside, at) (ap (λ (b : Bool). b || CutIn (drop (suc i) ss)) (sym cut))
 
     -- If slot i is cut, one of all is.
@@ -189,5 +185,5 @@ module _ (job : Query) (ss : List Slot) (i : ℕ) where
 
   -- After the last slot there is none that is cut.
   pub cut-end : CutIn ss ≡ CutIn (drop i ss) → length ss ≤ i → false ≡ CutIn ss
-  unfolding someCutIn
+  unfolding anyCut
   cut-end r g = sym (r ∙ rw (drop-of-length-le ss g))

@@ -5,11 +5,13 @@ mod start; // start.rt: the start node, and the search from it
 mod result; // result.rt: what is handed back to the caller
 
 use model::Searched;
-use model::Verdict;
+use rights::Accepted;
 use table::slots;
 ghost use mathlib.Core.Path.{_≡_};
-ghost use Rattle.model.specs.calls.Search.{searchEnd, SearchGives};
+ghost use Rattle.model.specs.calls.Call.{call};
+ghost use Rattle.model.specs.calls.Search.{searchEnd, SearchEnds};
 ghost use Rattle.model.specs.calls.Numbers.{searchNumbers, PartGiven};
+ghost use Rattle.search.specs.Given.{runsOut};
 
 // What a search in a table comes to: the slot of the answer and how many slots are in use; the number of a refusal, 11 or 12; or that the
 // table is full.
@@ -25,15 +27,16 @@ enum Turn {
     End(Ended),
 }
 
-// Searches for the job's plan, and writes it to the front of the plan buffer. Bytes that are no job are refused with nothing touched; on every
-// other way out each byte of the table is zero.
-pub fn search(job: &[u8], table: &mut [u8], plan: &mut [u8]) -> Searched
-    ensures { λ r. ⌜ SearchGives (now (job .entry)) (now (table .entry)) (now (plan .entry)) (searchEnd r (now (table .exit)) (now (plan .exit))) ⌝ }
+// Searches for the job's plan by the steps that the caller may use, and writes it to the front of the plan buffer. Bytes that are no job, and a list of
+// needed rights of another length, are refused with nothing touched; on every other way out each byte of the table is zero.
+pub fn search(job: &[u8], needs: &[u8], rights: u8, table: &mut [u8], plan: &mut [u8]) -> Searched
+    ensures { λ r. ⌜ SearchEnds runsOut (call (now (job .entry)) (now (needs .entry)) rights) (now (table .entry)) (now (plan .entry))
+        (searchEnd r (now (table .exit)) (now (plan .exit))) ⌝ }
 {
-    match job::decode(job) {
-        Verdict::Bad(r) => Searched::Refused(r),
-        Verdict::Fine => {
-            let r = result::answer(job, table, plan);
+    match rights::accept(job, needs, rights) {
+        Accepted::Refused(r) => Searched::Refused(r),
+        Accepted::Usable(usable) => {
+            let r = result::answer(job, usable, table, plan);
             slots::clear(table);
             r
         }
@@ -53,14 +56,16 @@ pub fn numbers(end: Searched) -> [u64; 3]
 // The same search, with its result as three numbers. The front part of the plan buffer that holds the steps is handed back, empty on a refusal.
 pub fn planned<'a>(
     job: &[u8],
+    needs: &[u8],
+    rights: u8,
     table: &mut [u8],
     plan: &'a mut [u8],
     out: &mut [u64; 3],
 ) -> &'a mut [u8]
-    ensures { λ r. ⌜ PartGiven (now (job .entry)) (now (table .entry)) (now (plan .entry)) (now (table .exit)) (now r) (now (out .exit))
-        × (r .ptr ≡ plan .entry .ptr) ⌝ }
+    ensures { λ r. ⌜ PartGiven runsOut (call (now (job .entry)) (now (needs .entry)) rights) (now (table .entry)) (now (plan .entry)) (now (table .exit))
+        (now r) (now (out .exit)) × (r .ptr ≡ plan .entry .ptr) ⌝ }
 {
-    let told = numbers(search(job, table, plan));
+    let told = numbers(search(job, needs, rights, table, plan));
     *out = told;
     &mut plan[..told[2] as usize]
 }

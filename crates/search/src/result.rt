@@ -34,13 +34,13 @@ fn hand_over(t: &[u8], n: usize, g: usize, plan: &mut [u8]) -> Searched
     Searched::Planned(slots::cost(t, g), steps)
 }
 
-// The answer to an accepted job. The table is left as the search used it.
-pub fn answer(job: &[u8], table: &mut [u8], plan: &mut [u8]) -> Searched
+// The answer to an accepted job, by the actions that the caller may use. The table is left as the search used it.
+pub fn answer(job: &[u8], usable: u64, table: &mut [u8], plan: &mut [u8]) -> Searched
     requires { ⌜ jobVerdict (now job) ≡ Fine ⌝ }
     ensures { λ r. ⌜ searchEnd r (cleared (now (table .entry))) (now (plan .exit))
-        ≡ endOf (searchIn (sys (query (now (job .entry)))) (slotsIn (now (table .entry)))) (now (table .entry)) (now (plan .entry)) ⌝ }
+        ≡ endOf (searchIn (sys (query (now (job .entry)) usable)) (slotsIn (now (table .entry)))) (now (table .entry)) (now (plan .entry)) ⌝ }
 {
-    match start::searched(job, table) {
+    match start::searched(job, usable, table) {
         Ended::Goal(g, n) => hand_over(table, n, g, plan),
         Ended::NoPlan(number) => Searched::Refused(Refusal { number, place: 0 }),
         Ended::Full => Searched::Refused(Refusal {

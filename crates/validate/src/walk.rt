@@ -8,6 +8,7 @@ ghost use Prim.Native.Nat.{_+_, _*_, _≤_, _<_};
 ghost use lib.Dec.{ltb};
 ghost use lib.ListN.{length};
 ghost use Rattle.model.specs.declared.Verdict.the-variants.{Fine};
+ghost use Rattle.model.specs.Bits.{bit};
 ghost use Rattle.model.specs.Verdict.{unless, orElse};
 ghost use Rattle.model.specs.job.Job.{actionOf};
 ghost use Rattle.model.specs.job.Layout.{actionCount, jobOf};
@@ -40,18 +41,30 @@ pub fn start(job: &[u8]) -> Walk
     }
 }
 
-// That step i of a list is one of the job's actions, and then that it is applicable.
-pub fn check_step(job: &[u8], facts: u64, step: u8, i: usize) -> Verdict
+// Of two checks the first that refuses decides.
+fn or_else(first: Verdict, second: Verdict) -> Verdict
+    ensures { λ r. ⌜ r ≡ orElse first second ⌝ }
+{
+    match first {
+        Verdict::Fine => second,
+        Verdict::Bad(_) => first,
+    }
+}
+
+// That step i of a list is one of the job's actions, then that the caller may use it, and then that it is applicable.
+pub fn check_step(job: &[u8], usable: u64, facts: u64, step: u8, i: usize) -> Verdict
     requires { ⌜ jobVerdict (now job) ≡ Fine ⌝ }
     ensures { λ r. ⌜ r ≡ orElse (unless (ltb step (length (jobOf (now (job .entry)) .actions))) 6 i)
-        (unless (applicable (actionOf (jobOf (now (job .entry))) step) facts) 7 i) ⌝ }
+        (orElse (unless (bit usable step) 15 i) (unless (applicable (actionOf (jobOf (now (job .entry))) step) facts) 7 i)) ⌝ }
 {
     if access::action_count(job) <= step {
         return checks::unless(false, 6, i);
     }
+    let right = checks::unless((usable >> step) % 2 == 1, 15, i);
     let action = nodes::action_of(job, step);
     let state = State { facts };
-    checks::unless(state.applicable(action), 7, i)
+    let applicable = checks::unless(state.applicable(action), 7, i);
+    or_else(right, applicable)
 }
 
 // One step further.

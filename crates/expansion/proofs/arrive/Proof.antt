@@ -45,7 +45,7 @@ estimated c = c .before .before
 
 -- where a slot is left
 abbrev costs : tie.Then1 → tie.After-left
-costs c = c .before .before
+costs c = c .before .before .before
 
 abbrev roomy : tie.After-fresh-arg → tie.Then1
 roomy c = c .before
@@ -64,7 +64,7 @@ stored c = c .before .before
 
 -- where none is
 abbrev unheld : tie.Else1 → tie.After-left
-unheld c = c .before .before
+unheld c = c .before .before .before
 
 -- ---- needs
 
@@ -73,26 +73,31 @@ relax-requires c κs =
     let j = held c in
     let f = found j in
     let s = start f in (
-      (s .args .places, s .pre .0),
+      (s .args .terms .usable, s .args .terms .places, s .pre .0),
       find-inside (s .args .t .now) (s .args .node) (s .args .n) _ _ (f .find .ensures) (j .j .given .1),
       s .pre .2,
     )
 
 -- A new node that has an estimate has the one that was worked out.
 has-estimate : (c : tie.After-left) → let s = start (missing (new (estimated c))) in
-    HasEstimate (query (s .args .job .now)) (s .args .node) (c .left .given .0 .0)
+    HasEstimate (query (s .args .job .now) (s .args .terms .usable)) (s .args .node) (c .left .given .0 .0)
 has-estimate c =
     let e = estimated c in
     let s = start (missing (new e)) in
-    cost-estimated (query (s .args .job .now)) (s .args .node) (e .estimate-of .ensures) (c .left .given .1)
+    cost-estimated (query (s .args .job .now) (s .args .terms .usable)) (s .args .node) (e .estimate-of .ensures) (c .left .given .1)
 
 fresh-requires : tie.Need-fresh-requires
 fresh-requires c κs =
     let b = roomy c in
     let l = costs b in
     let s = start (missing (new (estimated l))) in
-    let x = s .pre .0 in
-    (extends-free x (b .if1 .taken), omega (arith, x .running .used, x .running .most, x .inside), s .pre .1 .clean, has-estimate l, s .pre .2)
+    let x = s .pre .0 in (
+      extends-free x (b .if1 .taken),
+      omega (arith, x .running .used, x .running .most, x .inside),
+      s .pre .1 .clean,
+      omega (arith, has-estimate l .fits),
+      s .pre .2,
+    )
 
 store-requires : tie.Need-store-requires
 store-requires c κs =
@@ -113,7 +118,7 @@ returns c =
     let e = hopeless c in
     let s = start (missing (new e)) in (
       grew-hopeless (s .pre .0) (s .pre .1)
-          (nothing-estimated (query (s .args .job .now)) (s .args .node) (e .estimate-of .ensures) (c .enum-told2 .given .1)),
+          (nothing-estimated (query (s .args .job .now) (s .args .terms .usable)) (s .args .node) (e .estimate-of .ensures) (c .enum-told2 .given .1)),
       s .pre .2,
     )
 
@@ -123,7 +128,7 @@ returns-2 c =
     let j = held (relaxing r) in
     let f = found j in
     let s = start f in (
-      grew-relaxed (s .pre .0) (s .pre .1) (f .find .ensures) _ (j .j .given .1) (r .relax .ensures .0)
+      grew-relaxed (s .pre .0) (s .pre .1) (f .find .ensures) _ (j .j .given .1) (r .relax .ensures .0 _ _ (s .pre .0))
           (find-inside (s .args .t .now) (s .args .node) (s .args .n) _ _ (f .find .ensures) (j .j .given .1)),
       r .relax .ensures .1,
     )

@@ -1,10 +1,10 @@
 -- `expand` follows the actions in order: those below a came to the table at hand, and the choices are those of the others.
-use Rattle.job.proofs.Accepted.{accepted-laid, length-actions}
+use Rattle.job.proofs.Accepted.{accepted-laid}
 use Rattle.model.specs.job.Job.{actionOf}
-use Rattle.model.specs.job.Layout.{actionCount, constraintCount, jobOf}
+use Rattle.model.specs.job.Layout.{actionCount, constraintCount}
 use Rattle.model.specs.search.Node.{Node}
 use Rattle.model.specs.task.State.{applicable}
-use Rattle.model.specs.search.Query.{query}
+use Rattle.model.specs.search.Query.{Query, query, jobFor}
 use mathlib.Core.Path.{_≡_, refl, sym}
 use mathlib.Core.Bool.{false}
 use mathlib.Core.List.{List}
@@ -15,6 +15,7 @@ use native.Mathlib.Omega.{arith}
 use lib.ListN.{length}
 use borrow.Author.Needs.{needs}
 use Rattle.nodes.specs.Meaning.{nodeIs, Applies}
+use Rattle.held.proofs.JobLaws.{sys-actions}
 use Rattle.progression.specs.Workspace.{Workspace}
 use Rattle.expansion.proofs.Choosing as choosing
 use Rattle.expansion.proofs.Turns.{Going, going-start, going-end, going-next, going-full, going-on, going-past, carried}
@@ -22,11 +23,12 @@ use Rattle.expansion.proofs.expand.Statement.{statement}
 use Rattle.expansion.proofs.expand.Tie as tie
 
 abbrev Inv-loop : tie.InvT-loop
-Inv-loop job work₀ t₀ n places i from count choices₀ held₀ a₀ work t choices held a =
-    Going (query job) places n t₀ i from held t a × (length t ≡ length t₀) × (length work ≡ length work₀) × Workspace job work × (choices ≡ choices₀ / 2 ^ a)
+Inv-loop job work₀ t₀ n terms i from count choices₀ held₀ a₀ work t choices held a =
+    Going (query job (terms .usable)) (terms .places) n t₀ i from held t a × (length t ≡ length t₀) × (length work ≡ length work₀) × Workspace job work
+    × (choices ≡ choices₀ / 2 ^ a)
 
 abbrev μ-loop : tie.MeasureT-loop
-μ-loop job work₀ t₀ n places i from count choices₀ held₀ a₀ work t choices held a = count - a
+μ-loop job work₀ t₀ n terms i from count choices₀ held₀ a₀ work t choices held a = count - a
 
 -- ---- places
 
@@ -99,22 +101,26 @@ module _ (c : tie.In-loop Inv-loop μ-loop) where
   abbrev job : List ℕ
   job = start d .args .job .now
 
+  -- what is asked
+  abbrev on : Query
+  on = query job (start d .args .terms .usable)
+
   abbrev node : Node
   node = nodeIs (constraintCount job) (d .load .result .node)
 
-  known : l .loop .a < length (jobOf job .actions)
-  known = omega (arith, below c, length-actions job)
+  known : l .loop .a < length (jobFor on .actions)
+  known = omega (arith, below c, sys-actions on)
 
-  applicable-then : l .loop .choices % 2 ≡ 1 → Applies (jobOf job) node (l .loop .a)
-  applicable-then = choosing.chosen (chosen l .choices .result) (l .loop .a) (l .loop .inv .4) (jobOf job) node (chosen l .choices .ensures) known
+  applicable-then : l .loop .choices % 2 ≡ 1 → Applies (jobFor on) node (l .loop .a)
+  applicable-then = choosing.chosen (chosen l .choices .result) (l .loop .a) (l .loop .inv .4) (jobFor on) node (chosen l .choices .ensures) known
 
-  applicable-else : (l .loop .choices % 2 ≡ 1 → ⊥) → applicable (actionOf (jobOf job) (l .loop .a)) (node .state) ≡ false
-  applicable-else = choosing.unchosen (chosen l .choices .result) (l .loop .a) (l .loop .inv .4) (jobOf job) node (chosen l .choices .ensures) known
+  applicable-else : (l .loop .choices % 2 ≡ 1 → ⊥) → applicable (actionOf (jobFor on) (l .loop .a)) (node .state) ≡ false
+  applicable-else = choosing.unchosen (chosen l .choices .result) (l .loop .a) (l .loop .inv .4) (jobFor on) node (chosen l .choices .ensures) known
 
   -- what holds after the action, of the slots in use, the table and the workspace
   abbrev After : ℕ → List ℕ → List ℕ → Type 0
   After m t work = let s = start d .args in
-      Going (query job) (s .places) (s .n) (s .t .now) (s .i) (d .load .result) m t (l .loop .a + 1) × (length t ≡ length (s .t .now))
+      Going on (s .terms .places) (s .n) (s .t .now) (s .i) (d .load .result) m t (l .loop .a + 1) × (length t ≡ length (s .t .now))
       × (length work ≡ length (s .work .now)) × Workspace job work
 
 follow-requires : tie.Need-follow-requires Inv-loop μ-loop

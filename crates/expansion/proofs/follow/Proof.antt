@@ -1,5 +1,17 @@
 -- `follow` makes an arrival where the action leads to another node.
+use mathlib.Core.Path.{_≡_, sym, subst}
+use mathlib.Core.Bool.{true}
+use mathlib.Core.Option.{Option}
 use borrow.Author.Tests.{not-true, not-false}
+use Rattle.model.specs.job.Job.{Action}
+use Rattle.model.specs.job.Layout.{constraintCount}
+use Rattle.model.specs.task.State.{applicable}
+use Rattle.model.specs.search.Node.{Node}
+use Rattle.model.specs.search.JobSystem.{nextNode}
+use Rattle.model.specs.search.Query.{Query, query, jobFor}
+use Rattle.nodes.specs.Meaning.{Leads}
+use Rattle.held.specs.Held.{nodeFor}
+use Rattle.held.proofs.JobLaws.{own-action, own-next}
 use Rattle.expansion.proofs.Growing.{grew-nowhere, grew-self, leads-to}
 use borrow.Author.Needs.{needs}
 use Rattle.expansion.proofs.follow.Statement.{statement}
@@ -7,8 +19,11 @@ use Rattle.expansion.proofs.follow.Tie as tie
 
 -- ---- places
 
-abbrev start : tie.After-next → tie.Start
-start c = c .before .before .before .before .before .before
+abbrev start : tie.After-next-arg → tie.Start
+start c = c .before .before .before .before .before
+
+abbrev lent : tie.After-next → tie.After-next-arg
+lent c = c .before
 
 abbrev stepped : tie.After-struct-known → tie.After-next
 stepped c = c .before .before .before
@@ -40,19 +55,43 @@ arrived c = c .before .before .before .before
 
 -- ---- needs
 
+-- what is asked
+abbrev asked : (s : tie.Start) → Query
+asked s = query (s .args .job .now) (s .args .terms .usable)
+
+-- An applicable action is the job's own.
+next-requires : tie.Need-next-requires
+next-requires c κs =
+    let s = start c in
+    let x = s .pre .0 in
+    let own = own-action (asked s) (s .args .a) (x .known) _ (s .pre .1) in (
+      x .running .accepted,
+      x .known,
+      subst (λ (a : Action). applicable a (nodeFor (s .args .job .now) (s .args .from .node) .state) ≡ true) own (s .pre .1),
+      s .pre .2,
+    )
+
+-- It leads where it leads in the job.
+leads-on : (c : tie.After-next) → let s = start (lent c) in
+    Leads (constraintCount (s .args .job .now)) (nextNode (jobFor (asked s)) (nodeFor (s .args .job .now) (s .args .from .node)) (s .args .a)) (c .next .result)
+leads-on c =
+    let s = start (lent c) in
+    let own = own-next (asked s) (s .args .a) (s .pre .0 .known) _ (s .pre .1) (nodeFor (s .args .job .now) (s .args .from .node)) in
+    subst (λ (to : Option Node). Leads (constraintCount (s .args .job .now)) to (c .next .result)) (sym own) (c .next .ensures .0)
+
 returns : tie.Need-returns
 returns c =
     let n = stepped (nowhere c) in
-    let s = start n in
-    (grew-nowhere (s .pre .0) (n .next .ensures .0) (not-true _ (c .if1 .taken)), n .next .ensures .1)
+    let s = start (lent n) in
+    (grew-nowhere (s .pre .0) (leads-on n) (not-true _ (c .if1 .taken)), n .next .ensures .1)
 
 returns-2 : tie.Need-returns-2
 returns-2 c =
     let w = itself c in
     let e = leads w in
     let n = stepped (somewhere e) in
-    let s = start n in (
-      grew-self (s .pre .0) (n .next .ensures .0) (not-false _ (e .if1 .left)) (w .same-node .ensures) (c .if2 .taken),
+    let s = start (lent n) in (
+      grew-self (s .pre .0) (leads-on n) (not-false _ (e .if1 .left)) (w .same-node .ensures) (c .if2 .taken),
       n .next .ensures .1,
     )
 
@@ -60,8 +99,8 @@ arrive-requires : tie.Need-arrive-requires
 arrive-requires c κs =
     let e = leads (another (arriving c)) in
     let n = stepped (somewhere e) in
-    let s = start n in
-    (s .pre .0, leads-to (s .pre .0) (n .next .ensures .0) (not-false _ (e .if1 .left)), n .next .ensures .1)
+    let s = start (lent n) in
+    (s .pre .0, leads-to (s .pre .0) (leads-on n) (not-false _ (e .if1 .left)), n .next .ensures .1)
 
 returns-3 : tie.Need-returns-3
 returns-3 c = arrived c .arrive .ensures
@@ -70,7 +109,7 @@ pub follow-spec : {M : Type 1} → statement M
 follow-spec =
     tie.close
     (tie.spec
-    (λ c κs. search needs)
+    next-requires
     (λ c. search needs)
     returns
     (λ c κs. search needs)

@@ -3,10 +3,11 @@ use mathlib.Core.Path.{_≡_, refl, sym, _∙_, subst}
 use mathlib.Core.Bool.{false}
 use native.Mathlib.Omega.{arith}
 use borrow.Author.Needs.{needs}
-use Rattle.model.specs.search.Query.{query}
-use Rattle.table.specs.Slots.{slotAt}
-use Rattle.held.specs.Held.{Sound}
-use Rattle.expansion.proofs.Arrival.{bytes-slot, extends-open, sound-slot}
+use Rattle.table.specs.declared.Slot.{Slot}
+use Rattle.table.specs.Slots.{slotAt, Narrow}
+use Rattle.table.proofs.SlotLaws.{slot-narrow}
+use Rattle.held.specs.Held.{Formed}
+use Rattle.expansion.proofs.Arrival.{bytes-slot, extends-open, sound-slot, joins}
 use Rattle.expansion.proofs.Relaxing.{relax-taken, relax-less, relax-same, relax-more, tied-to}
 use Rattle.expansion.proofs.relax.Statement.{statement}
 use Rattle.expansion.proofs.relax.Tie as tie
@@ -92,7 +93,7 @@ returns : tie.Need-returns
 returns c =
     let e = taken-by c in
     let s = start e in
-    (relax-taken (s .pre .0 .1) (s .args .node) (s .args .j) (s .pre .1) refl (sym (e .is-taken .ensures) ∙ c .if1 .taken), s .pre .2)
+    (λ u p x. relax-taken x (s .args .node) (s .args .j) (s .pre .1) refl (sym (e .is-taken .ensures) ∙ c .if1 .taken), s .pre .2)
 
 -- Slot j is open where it was loaded.
 isOpen : (c : tie.After-load) → let s = first c .args in slotAt (s .t .now) (s .j) .taken ≡ false
@@ -101,18 +102,19 @@ isOpen c = let e = free c in sym (free-by e .is-taken .ensures) ∙ e .if1 .left
 key-of-requires : tie.Need-key-of-requires
 key-of-requires c κs =
     let s = first c in
-    extends-open (s .pre .0 .1) (s .args .j) (isOpen c) (s .pre .1)
+    extends-open (s .pre .0 .2) (s .args .j) (isOpen c) (s .pre .1)
 
 replaced-requires : tie.Need-replaced-requires
 replaced-requires c κs =
     let k = keyed (less-by (less c)) in
     let d = loaded k in
     let s = first d in
-    let x = s .pre .0 .1 in (
+    let x = s .pre .0 .2 in (
       extends-open x (s .args .j) (isOpen d) (s .pre .1),
       omega (arith, x .running .used, x .running .most, x .inside),
       k .key-of .ensures,
-      subst (Sound (query (s .args .job .now))) (sym (d .load .ensures .0)) (sound-slot x (s .args .j) (s .pre .1)),
+      subst (Formed (s .args .job .now)) (sym (d .load .ensures .0)) (sound-slot x (s .args .j) (s .pre .1) .formed),
+      subst (λ (z : Slot). Narrow z) (sym (d .load .ensures .0)) (slot-narrow (s .args .t .now) (s .args .j) (bytes-slot x (s .args .j) (s .pre .1))),
       s .pre .2,
     )
 
@@ -120,7 +122,7 @@ store-requires : tie.Need-store-requires
 store-requires c κs =
     let r = replaced c in
     let s = first (loaded (keyed (less-by (less (replacing r))))) in
-    (bytes-slot (s .pre .0 .1) (s .args .j) (s .pre .1), r .replaced .ensures .0 .narrow)
+    (bytes-slot (s .pre .0 .2) (s .args .j) (s .pre .1), r .replaced .ensures .0 .narrow)
 
 returns-2 : tie.Need-returns-2
 returns-2 c =
@@ -131,7 +133,7 @@ returns-2 c =
     let k = keyed l in
     let d = loaded k in
     let s = first d in (
-      relax-less (s .pre .0 .1) (s .args .node) (s .args .j) (s .pre .1) (d .load .ensures .0) (isOpen d) (k .key-of .ensures)
+      λ u p x. relax-less x (s .args .node) (s .args .j) (s .pre .1) (d .load .ensures .0) (isOpen d) (k .key-of .ensures)
           (sym (l .less .ensures) ∙ b .if2 .taken) (w .store .ensures) (r .replaced .ensures .0),
       r .replaced .ensures .1,
     )
@@ -142,10 +144,11 @@ merged-requires c κs =
     let e = same-by b in
     let k = keyed (not-less-by (not-less e)) in
     let d = loaded k in
-    let s = first d in (
-      s .pre .0,
-      tied-to (s .pre .0 .1) (s .args .node) (s .args .j) (s .pre .1) (d .load .ensures .0) (isOpen d) (k .key-of .ensures)
-          (sym (e .same .ensures) ∙ b .if3 .taken),
+    let s = first d in
+    let x = s .pre .0 .2 in (
+      extends-open x (s .args .j) (isOpen d) (s .pre .1),
+      joins x (tied-to x (s .args .node) (s .args .j) (s .pre .1) (d .load .ensures .0) (isOpen d) (k .key-of .ensures)
+          (sym (e .same .ensures) ∙ b .if3 .taken)),
       s .pre .2,
     )
 
@@ -153,7 +156,7 @@ store-requires-2 : tie.Need-store-requires-2
 store-requires-2 c κs =
     let r = merged c in
     let s = first (loaded (keyed (not-less-by (not-less (same-by (same (merging r))))))) in
-    (bytes-slot (s .pre .0 .1) (s .args .j) (s .pre .1), r .merged .ensures .0 .narrow)
+    (bytes-slot (s .pre .0 .2) (s .args .j) (s .pre .1), r .merged .ensures .0 .narrow)
 
 returns-3 : tie.Need-returns-3
 returns-3 c =
@@ -166,7 +169,7 @@ returns-3 c =
     let k = keyed l in
     let d = loaded k in
     let s = first d in (
-      relax-same (s .pre .0 .1) (s .args .node) (s .args .j) (s .pre .1) (d .load .ensures .0) (isOpen d) (k .key-of .ensures)
+      λ u p x. relax-same x (s .args .node) (s .args .j) (s .pre .1) (d .load .ensures .0) (isOpen d) (k .key-of .ensures)
           (sym (l .less .ensures) ∙ n .if2 .left) (sym (e .same .ensures) ∙ b .if3 .taken) (w .store2 .ensures) (r .merged .ensures .0),
       r .merged .ensures .1,
     )
@@ -179,7 +182,7 @@ returns-4 c =
     let k = keyed l in
     let d = loaded k in
     let s = first d in (
-      relax-more (s .pre .0 .1) (s .args .node) (s .args .j) (s .pre .1) (d .load .ensures .0) (isOpen d) (k .key-of .ensures)
+      λ u p x. relax-more x (s .args .node) (s .args .j) (s .pre .1) (d .load .ensures .0) (isOpen d) (k .key-of .ensures)
           (sym (l .less .ensures) ∙ n .if2 .left) (sym (e .same .ensures) ∙ c .if3 .left),
       s .pre .2,
     )

@@ -16,26 +16,25 @@ use Rattle.model.specs.Verdict.{refusal}
 use Rattle.model.specs.calls.Search as calls
 use Rattle.model.specs.calls.Search.{SearchEnd, searchEnd, slotsIn, cleared, writtenOver, ruled, tooSmall, SearchGives, stepsIn}
 use Rattle.model.specs.exploration.Equations.{Answer, plan, no-plan}
-use Rattle.model.specs.job.Layout.{jobOf}
-use Rattle.model.specs.job.Decoding.{jobVerdict}
 use Rattle.model.specs.search.JobSystem.{solveJob, reachedCount}
+use Rattle.model.specs.calls.Call.{Call, callVerdict, callerJob}
 
-module _ (job table buffer : List ℕ) where
+module _ (call : Call) (table buffer : List ℕ) where
   pub data Way : SearchEnd → Type 0 where
-    -- the bytes are no job: 1 to 5
-    no-job : {r : Refusal} → jobVerdict job ≡ Bad r → Way (searchEnd (Refused r) table buffer)
+    -- the bytes are no job, or the list of rights has another length: 1 to 5, or 14
+    not-taken : {r : Refusal} → callVerdict call ≡ Bad r → Way (searchEnd (Refused r) table buffer)
     -- the job has no plan: 11 or 12
-    none : jobVerdict job ≡ Fine → {k : ℕ} → solveJob (jobOf job) ≡ no-plan k → Way (searchEnd (Refused (refusal k 0)) (cleared table) buffer)
+    none : callVerdict call ≡ Fine → {k : ℕ} → solveJob (callerJob call) ≡ no-plan k → Way (searchEnd (Refused (refusal k 0)) (cleared table) buffer)
     -- the job has a plan, which the buffer holds
-    whole : jobVerdict job ≡ Fine → {c : ℕ} {p : List ℕ} → solveJob (jobOf job) ≡ plan c p → length p ≤ length buffer
+    whole : callVerdict call ≡ Fine → {c : ℕ} {p : List ℕ} → solveJob (callerJob call) ≡ plan c p → length p ≤ length buffer
         → Way (searchEnd (Planned c (length p)) (cleared table) (writtenOver p buffer))
     -- the job has a plan, for which the buffer is too short: 13
-    short : jobVerdict job ≡ Fine → {c : ℕ} {p : List ℕ} → solveJob (jobOf job) ≡ plan c p → length buffer < length p
+    short : callVerdict call ≡ Fine → {c : ℕ} {p : List ℕ} → solveJob (callerJob call) ≡ plan c p → length buffer < length p
         → Way (searchEnd (Refused (refusal 13 (length p))) (cleared table) buffer)
     -- the table is too small: 10
-    small : jobVerdict job ≡ Fine → slotsIn table < reachedCount (jobOf job) → Way (searchEnd (Refused (refusal 10 0)) (cleared table) buffer)
+    small : callVerdict call ≡ Fine → slotsIn table < reachedCount (callerJob call) → Way (searchEnd (Refused (refusal 10 0)) (cleared table) buffer)
 
-  answered-way : jobVerdict job ≡ Fine → (a : Answer) → solveJob (jobOf job) ≡ a → Way (calls.answered a table buffer)
+  answered-way : callVerdict call ≡ Fine → (a : Answer) → solveJob (callerJob call) ≡ a → Way (calls.answered a table buffer)
   unfolding calls.answered
   answered-way fine (no-plan k) e = none fine e
   answered-way fine (plan c p) e = go (leb (length p) (length buffer)) refl
@@ -44,21 +43,21 @@ module _ (job table buffer : List ℕ) where
       go true l = rw (l, calls.answered) (whole fine e (leb-true (length p) (length buffer) l))
       go false l = rw (l, calls.answered) (short fine e (leb-false (length p) (length buffer) l))
 
-  ruled-way : (v : Verdict) → jobVerdict job ≡ v → Way (ruled job table buffer)
+  ruled-way : (v : Verdict) → callVerdict call ≡ v → Way (ruled call table buffer)
   unfolding ruled
-  ruled-way Fine e = rw (e, ruled) (answered-way e (solveJob (jobOf job)) refl)
-  ruled-way (Bad r) e = rw (e, ruled) (no-job e)
+  ruled-way Fine e = rw (e, ruled) (answered-way e (solveJob (callerJob call)) refl)
+  ruled-way (Bad r) e = rw (e, ruled) (not-taken e)
 
   -- What a search gives is one of these.
-  pub way : {e : SearchEnd} → SearchGives job table buffer e → Way e
+  pub way : {e : SearchEnd} → SearchGives call table buffer e → Way e
   unfolding tooSmall
-  way (inl h) = subst Way (sym h) (ruled-way (jobVerdict job) refl)
+  way (inl h) = subst Way (sym h) (ruled-way (callVerdict call) refl)
   way (inr h) = subst Way (sym (h .1)) (small (h .0 .0) (h .0 .1))
 
   -- On each, as many steps as are given back are in the buffer.
   pub steps-fit : {e : SearchEnd} → Way e → stepsIn (e .result) ≤ length (e .plan)
   unfolding stepsIn writtenOver
-  steps-fit (no-job e) = omega arith
+  steps-fit (not-taken e) = omega arith
   steps-fit (none f e) = omega arith
   steps-fit (whole f e l) = simp length-append (omega arith)
   steps-fit (short f e l) = omega arith

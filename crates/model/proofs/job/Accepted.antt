@@ -39,6 +39,20 @@ pub record ProperJob (j : Job) : Type 0 where
   pub constraint-parts : FewParts (j .constraints)
   pub hint-parts : FewParts (j .hints)
 
+-- There are as many actions and formulas as the head says.
+module _ (bytes : List ℕ) where
+  pub length-actions : length (jobOf bytes .actions) ≡ actionCount bytes
+  unfolding jobOf
+  length-actions = length-listOf _ (actionCount bytes)
+
+  pub length-constraints : length (jobOf bytes .constraints) ≡ constraintCount bytes
+  unfolding jobOf
+  length-constraints = length-listOf _ (constraintCount bytes)
+
+  pub length-hints : length (jobOf bytes .hints) ≡ hintCount bytes
+  unfolding jobOf
+  length-hints = length-listOf _ (hintCount bytes)
+
 -- Four tests are true together only if each is.
 pub four-true : (a b c d : Bool) → a && b && c && d ≡ true → (a ≡ true) × (b ≡ true) × (c ≡ true) × (d ≡ true)
 four-true true true true d h = (refl, refl, refl, h)

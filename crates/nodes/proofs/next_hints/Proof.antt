@@ -2,7 +2,8 @@
 use native.Mathlib.Omega.{arith}
 use borrow.Author.Needs.{needs}
 use Rattle.model.specs.job.Layout.{jobOf}
-use Rattle.job.proofs.Accepted.{accepted-laid, length-hints}
+use Rattle.model.proofs.job.Accepted.{length-hints}
+use Rattle.job.proofs.Accepted.{accepted-laid}
 use Rattle.nodes.proofs.Hints.{carried}
 use Rattle.nodes.proofs.next_hints.Statement.{statement}
 use Rattle.nodes.proofs.next_hints.Tie as tie

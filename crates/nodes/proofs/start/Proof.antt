@@ -5,7 +5,8 @@ use Rattle.model.specs.search.JobSystem.{startNode}
 use Rattle.model.specs.job.Layout.{jobOf}
 use Rattle.model.proofs.job.ResidualLists.{length-residuals}
 use Rattle.job.proofs.Bounds.{head-there}
-use Rattle.job.proofs.Accepted.{accepted-laid, length-constraints}
+use Rattle.model.proofs.job.Accepted.{length-constraints}
+use Rattle.job.proofs.Accepted.{accepted-laid}
 use Rattle.nodes.proofs.Arrivals.{made-leads}
 use Rattle.nodes.proofs.start.Statement.{statement}
 use Rattle.nodes.proofs.start.Tie as tie

@@ -5,7 +5,8 @@ use Rattle.model.specs.search.JobSystem.{startHints}
 use Rattle.model.specs.job.Layout.{jobOf}
 use Rattle.model.proofs.job.ResidualLists.{length-residuals}
 use Rattle.job.proofs.Bounds.{head-there}
-use Rattle.job.proofs.Accepted.{accepted-laid, length-hints}
+use Rattle.model.proofs.job.Accepted.{length-hints}
+use Rattle.job.proofs.Accepted.{accepted-laid}
 use Rattle.nodes.proofs.Hints.{padded-carries}
 use Rattle.nodes.proofs.start_hints.Statement.{statement}
 use Rattle.nodes.proofs.start_hints.Tie as tie

@@ -13,19 +13,19 @@ use Rattle.job.proofs.TurnLaws.{none-yet, fine-at, all-fine}
 use Rattle.validate.specs.declared.walk.Walk.{Walk}
 use Rattle.validate.specs.Walk.{started, walkOf, judged}
 use Rattle.progression.specs.Workspace.{Workspace}
-use Rattle.job.proofs.Accepted.{length-actions}
+use Rattle.model.proofs.job.Accepted.{length-actions}
 use Rattle.validate.proofs.Walks.{walk-none, walk-more, walk-all}
 use Rattle.validate.proofs.Verdicts.{answer-bad, answer-fine, step-checked, step-known}
 use Rattle.validate.proofs.through.Statement.{statement}
 use Rattle.validate.proofs.through.Tie as tie
 
 abbrev Inv-loop : tie.InvT-loop
-Inv-loop job work₀ steps w₀ i₀ work w i =
-    (i ≤ length steps) × (w ≡ walkOf (jobOf job) (take i steps)) × (w .cost ≤ 65_535 * i) × (inTurn i (stepVerdict (jobOf job) steps) ≡ Fine)
+Inv-loop job usable work₀ steps w₀ i₀ work w i =
+    (i ≤ length steps) × (w ≡ walkOf (jobOf job) (take i steps)) × (w .cost ≤ 65_535 * i) × (inTurn i (stepVerdict (jobOf job) steps usable) ≡ Fine)
     × Workspace job work × (length work ≡ length work₀)
 
 abbrev μ-loop : tie.MeasureT-loop
-μ-loop job work₀ steps w₀ i₀ work w i = length steps - i
+μ-loop job usable work₀ steps w₀ i₀ work w i = length steps - i
 
 -- ---- places
 
@@ -42,11 +42,11 @@ checked c = c .before .before
 
 -- the code's check is that of step i
 told : (c : tie.After-check-step Inv-loop μ-loop)
-    → c .check-step .result ≡ stepVerdict (jobOf (start (looped c) .args .job .now)) (start (looped c) .args .steps .now) (looped c .loop .i)
+    → (let s = start (looped c) in c .check-step .result ≡ stepVerdict (jobOf (s .args .job .now)) (s .args .steps .now) (s .args .usable) (looped c .loop .i))
 told c =
     let s = start (looped c) in
     let l = looped c .loop in
-    step-checked (jobOf (s .args .job .now)) (s .args .steps .now) (l .i) (l .w) _ (l .inv .1) (c .check-step .ensures)
+    step-checked (jobOf (s .args .job .now)) (s .args .steps .now) (s .args .usable) (l .i) (l .w) _ (l .inv .1) (c .check-step .ensures)
 
 loop-holds : tie.Need-loop-holds Inv-loop μ-loop
 unfolding started
@@ -91,7 +91,7 @@ loop-again c =
       omega arith,
       m .make .ensures .0 ∙ walk-more j p (l .i) _ (l .inv .1) (omega arith),
       omega (arith, m .make .ensures, l .inv),
-      fine-at (stepVerdict j p) (l .i) Fine (l .inv .3) (sym (e .enum-told .given .1) ∙ told d) refl refl,
+      fine-at (stepVerdict j p (s .args .usable)) (l .i) Fine (l .inv .3) (sym (e .enum-told .given .1) ∙ told d) refl refl,
       m .make .ensures .2,
       search needs,
     )
@@ -103,7 +103,7 @@ returns-2 c =
     let j = jobOf (s .args .job .now) in
     let p = s .args .steps .now in
     let n : l .i ≡ length p = omega arith in
-    answer-fine _ _ _ (sym (all-fine (stepVerdict j p) (length p) (l .i) (l .inv .3) n))
+    answer-fine _ _ _ (sym (all-fine (stepVerdict j p (s .args .usable)) (length p) (l .i) (l .inv .3) n))
     (c .judged .ensures ∙ ap (judged j) (walk-all j p (l .i) _ (l .inv .1) n))
 
 pub through-spec : {M : Type 1} → statement M

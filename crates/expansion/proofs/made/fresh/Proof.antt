@@ -29,9 +29,9 @@ returns c =
     let h = hinted g in
     let k = keyed h in
     let s = start k in (
-      opened-makes (query (s .args .job .now)) _ _ _ _ _ _ _ (c .opened .ensures) (k .key-of .ensures) (h .hints-of .ensures .0)
+      opened-makes (s .args .job .now) _ _ _ _ _ _ _ (c .opened .ensures) (k .key-of .ensures) (h .hints-of .ensures .0)
           (s .pre .2)
-          (g .is-goal .ensures .0) (s .pre .3) (s .pre .1) (omega (arith, few-actions (query (s .args .job .now)) (s .pre .0 .accepted))),
+          (g .is-goal .ensures .0) (s .pre .3) (s .pre .1) (omega (arith, few-actions (query (s .args .job .now) 0) (s .pre .0 .accepted))),
       g .is-goal .ensures .1,
     )
 

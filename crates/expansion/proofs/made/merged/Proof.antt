@@ -1,5 +1,4 @@
 -- `merged` keeps the way whose path comes first, which `comes_first` tells.
-use Rattle.expansion.proofs.Arrival.{extends-open, comparable}
 use Rattle.expansion.proofs.Merging.{merged-new, merged-old}
 use borrow.Author.Needs.{needs}
 use Rattle.expansion.proofs.made.merged.Statement.{statement}
@@ -39,14 +38,12 @@ lost-by c = c .before
 -- ---- needs
 
 hints-of-requires : tie.Need-hints-of-requires
-hints-of-requires c κs =
-    let s = start c in
-    (extends-open (s .pre .0 .1) (s .pre .1 .slot) (s .pre .1 .isOpen) (s .pre .1 .inside), s .pre .2)
+hints-of-requires c κs = let s = start c in (s .pre .0, s .pre .2)
 
 comes-first-requires : tie.Need-comes-first-requires
 comes-first-requires c κs =
     let s = start (lent (hinted (both c))) in
-    comparable (s .pre .0 .1) (s .pre .1)
+    s .pre .1 .comparable
 
 returns : tie.Need-returns
 returns c =
@@ -55,7 +52,7 @@ returns c =
     let m = both (held o) in
     let h = hinted m in
     let s = start (lent h) in (
-      merged-new (s .pre .0 .1) (s .pre .1) (h .hints-of .ensures .0) (m .met .ensures) (c .opened .ensures) (o .comes-first .ensures) (w .if1 .taken),
+      merged-new _ (s .pre .0) (s .pre .1) _ (h .hints-of .ensures .0) (m .met .ensures) (c .opened .ensures) (o .comes-first .ensures) (w .if1 .taken),
       h .hints-of .ensures .1,
     )
 
@@ -66,7 +63,7 @@ returns-2 c =
     let m = both (held o) in
     let h = hinted m in
     let s = start (lent h) in (
-      merged-old (s .pre .0 .1) (s .pre .1) (h .hints-of .ensures .0) (m .met .ensures) (c .opened2 .ensures) (o .comes-first .ensures) (w .if1 .left),
+      merged-old _ (s .pre .0) (s .pre .1) _ (h .hints-of .ensures .0) (m .met .ensures) (c .opened2 .ensures) (o .comes-first .ensures) (w .if1 .left),
       h .hints-of .ensures .1,
     )
 

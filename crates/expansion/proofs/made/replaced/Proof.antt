@@ -21,8 +21,8 @@ returns : tie.Need-returns
 returns c =
     let h = hinted c in
     let s = start h in (
-      opened-makes (query (s .args .job .now)) _ _ _ _ _ _ _ (c .opened .ensures) (s .pre .2) (h .hints-of .ensures .0) (s .pre .3 .clean)
-          (s .pre .3 .marked) (s .pre .3 .estimated) (s .pre .1) (omega (arith, few-actions (query (s .args .job .now)) (s .pre .0 .accepted))),
+      opened-makes (s .args .job .now) _ _ _ _ _ _ _ (c .opened .ensures) (s .pre .2) (h .hints-of .ensures .0) (s .pre .3 .clean)
+          (s .pre .3 .marked) (s .pre .4 .estimate) (s .pre .1) (omega (arith, few-actions (query (s .args .job .now) 0) (s .pre .0 .accepted))),
       h .hints-of .ensures .1,
     )
 

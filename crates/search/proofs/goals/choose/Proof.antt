@@ -1,6 +1,5 @@
 -- `choose` compares two paths only of slots that are due, which have equally many steps.
 use borrow.Author.Needs.{needs}
-use Rattle.model.specs.search.Query.{query}
 use Rattle.search.proofs.GoalLaws.{chosen-not, chosen-only, chosen-behind, chosen-here, comparable}
 use Rattle.search.proofs.goals.choose.Statement.{statement}
 use Rattle.search.proofs.goals.choose.Tie as tie
@@ -8,7 +7,7 @@ use Rattle.search.proofs.goals.choose.Tie as tie
 returns : tie.Need-returns
 returns c =
     let s = c .before .before .before .before .args in
-    chosen-not (query (s .job .now)) (s .t .now) (s .n) (s .cost) (s .steps) (s .i) (s .found) _ (c .before .is-due .ensures) (c .if1 .taken)
+    chosen-not (s .job .now) (s .t .now) (s .n) (s .cost) (s .steps) (s .i) (s .found) _ (c .before .is-due .ensures) (c .if1 .taken)
 
 before-requires : tie.Need-before-requires
 before-requires c κs =
@@ -16,7 +15,7 @@ before-requires c κs =
     let s = e .before .before .before .before in (
       s .pre .1,
       s .pre .3,
-      comparable (query (s .args .job .now)) (s .args .t .now) (s .args .n) (s .args .i) _ (s .args .cost) (s .args .steps)
+      comparable (s .args .job .now) (s .args .t .now) (s .args .n) (s .args .i) _ (s .args .cost) (s .args .steps)
           (s .args .found) _ (e .before .is-due .ensures) (e .if1 .left) (c .before .found .given .1) (s .pre .4) (s .pre .1) (s .pre .2),
     )
 
@@ -24,21 +23,21 @@ returns-2 : tie.Need-returns-2
 returns-2 c =
     let e = c .before .before in
     let s = e .before .before .before .before .args in
-    chosen-only (query (s .job .now)) (s .t .now) (s .n) (s .cost) (s .steps) (s .i) (s .found) _ (e .before .is-due .ensures) (e .if1 .left)
+    chosen-only (s .job .now) (s .t .now) (s .n) (s .cost) (s .steps) (s .i) (s .found) _ (e .before .is-due .ensures) (e .if1 .left)
     (c .enum-told .given .1)
 
 returns-3 : tie.Need-returns-3
 returns-3 c =
     let e = c .before .before .before .before .before in
     let s = e .before .before .before .before .args in
-    chosen-behind (query (s .job .now)) (s .t .now) (s .n) (s .cost) (s .steps) (s .i) (s .found) _ (e .before .is-due .ensures) _ _
+    chosen-behind (s .job .now) (s .t .now) (s .n) (s .cost) (s .steps) (s .i) (s .found) _ (e .before .is-due .ensures) _ _
     (c .before .before2 .ensures) (e .if1 .left) (c .before .before .before .found .given .1) (c .if2 .taken)
 
 returns-4 : tie.Need-returns-4
 returns-4 c =
     let e = c .before .before .before .before .before in
     let s = e .before .before .before .before .args in
-    chosen-here (query (s .job .now)) (s .t .now) (s .n) (s .cost) (s .steps) (s .i) (s .found) _ (e .before .is-due .ensures) _ _
+    chosen-here (s .job .now) (s .t .now) (s .n) (s .cost) (s .steps) (s .i) (s .found) _ (e .before .is-due .ensures) _ _
     (c .before .before2 .ensures) (e .if1 .left) (c .before .before .before .found .given .1) (c .if2 .left)
 
 pub choose-spec : {M : Type 1} → statement M

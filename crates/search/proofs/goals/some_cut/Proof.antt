@@ -1,22 +1,18 @@
 -- `some_cut` goes from slot to slot: the first i are not cut.
 use mathlib.Core.Path.{_≡_, refl}
-use mathlib.Core.List.{map}
 use Prim.Native.Nat.{_≤_, _-_}
 use native.Mathlib.Omega.{arith}
 use lib.ListN.{drop}
 use borrow.Author.Needs.{needs}
-use Rattle.model.specs.search.Query.{query}
-use Rattle.astar.specs.Search.{someCutIn}
 use Rattle.table.proofs.LookupLaws.{length-first, first-at}
 use Rattle.paths.specs.Chain.{held}
-use Rattle.held.specs.Held.{sys, heldIs, heldIn}
+use Rattle.search.specs.GoalSlots.{anyCut}
 use Rattle.search.proofs.GoalLaws.{cut-here, cut-on, cut-end}
 use Rattle.search.proofs.goals.some_cut.Statement.{statement}
 use Rattle.search.proofs.goals.some_cut.Tie as tie
 
 abbrev Inv-loop : tie.InvT-loop
-Inv-loop job t n i₀ i = (someCutIn (sys (query job)) (map (heldIs (query job)) (held t n)) ≡ someCutIn (sys (query job))
-    (map (heldIs (query job)) (drop i (held t n)))) × (i ≤ n)
+Inv-loop job t n i₀ i = (anyCut job (held t n) ≡ anyCut job (drop i (held t n))) × (i ≤ n)
 
 abbrev μ-loop : tie.MeasureT-loop
 μ-loop job t n i₀ i = n - i
@@ -25,11 +21,10 @@ loop-holds : tie.Need-loop-holds Inv-loop μ-loop
 loop-holds c = (refl, omega arith)
 
 returns : tie.Need-returns Inv-loop μ-loop
-unfolding heldIn
 returns c =
     let s = c .before .before .before .before .before .before in
     let l = c .before .before .before .loop in
-    cut-here (query (s .args .job .now)) (held (s .args .t .now) (s .args .n)) (l .i) _ _ (l .inv .0)
+    cut-here (s .args .job .now) (held (s .args .t .now) (s .args .n)) (l .i) _ _ (l .inv .0)
     (first-at (s .args .t .now) (s .args .n) (l .i) (omega arith)) (c .before .slot-cut .ensures)
     (omega (arith, length-first (s .args .t .now) (s .args .n) (s .pre .1))) (c .if1 .taken)
 
@@ -37,18 +32,17 @@ loop-again : tie.Need-loop-again Inv-loop μ-loop
 loop-again c =
     let s = c .before .before .before .before .before .before in
     let l = c .before .before .before .loop in (
-      cut-on (query (s .args .job .now)) (held (s .args .t .now) (s .args .n)) (l .i) _ _ (l .inv .0)
+      cut-on (s .args .job .now) (held (s .args .t .now) (s .args .n)) (l .i) _ _ (l .inv .0)
           (first-at (s .args .t .now) (s .args .n) (l .i) (omega arith)) (c .before .slot-cut .ensures)
           (omega (arith, length-first (s .args .t .now) (s .args .n) (s .pre .1))) (c .if1 .left),
       omega arith,
     )
 
 returns-2 : tie.Need-returns-2 Inv-loop μ-loop
-unfolding heldIn
 returns-2 c =
     let s = c .before .before .before .before in
     let l = c .before .loop in
-    cut-end (query (s .args .job .now)) (held (s .args .t .now) (s .args .n)) (l .i) (l .inv .0)
+    cut-end (s .args .job .now) (held (s .args .t .now) (s .args .n)) (l .i) (l .inv .0)
     (omega (arith, length-first (s .args .t .now) (s .args .n) (s .pre .1)))
 
 pub some-cut-spec : {M : Type 1} → statement M

@@ -12,8 +12,8 @@ use Rattle.search.proofs.result.answer.Tie as tie
 
 -- The goal that was found.
 found : (c : tie.After-g) → let s = c .before .before .before .before .before .before .before .before .before .args in
-    EndsAs (c .before .before .before .before .searched .last .1 .0) (Goal (c .g .given .0 .0) (c .g .given .0 .1 .0))
-    (searchIn (sys (query (s .job .now))) (slotsIn (s .table .now)))
+    EndsAs (c .before .before .before .before .searched .last .1 .1 .0) (Goal (c .g .given .0 .0) (c .g .given .0 .1 .0))
+    (searchIn (sys (query (s .job .now) (s .usable))) (slotsIn (s .table .now)))
 found c = rw (c .g .given .1) at (c .before .before .before .before .searched .ensures)
 
 hand-over-requires : tie.Need-hand-over-requires
@@ -24,7 +24,8 @@ returns c =
     let x = c .before .before in
     let g = x .before .before .before .before in
     let s = g .before .before .before .before .before .before .before .before .before .args in
-    handed-end (s .table .now) (s .plan .now) (g .before .before .before .before .searched .last .1 .0) (g .g .given .0 .0) (g .g .given .0 .1 .0) (x .hand-over .result) (x .hand-over .last .1 .1 .1 .0) (found g) (x .hand-over .ensures)
+    handed-end (s .table .now) (s .plan .now) (g .before .before .before .before .searched .last .1 .1 .0) (g .g .given .0 .0) (g .g .given .0 .1 .0)
+    (x .hand-over .result) (x .hand-over .last .1 .1 .1 .0) (found g) (x .hand-over .ensures)
 
 returns-2 : tie.Need-returns-2
 returns-2 c =

@@ -1,6 +1,5 @@
 -- `begin` makes the start table.
 use borrow.Author.Needs.{needs}
-use Rattle.model.specs.search.Query.{query}
 use Rattle.search.proofs.StartLaws.{begun}
 use Rattle.search.proofs.start.begin.Statement.{statement}
 use Rattle.search.proofs.start.begin.Tie as tie
@@ -24,8 +23,8 @@ returns c =
     let g = judged x in
     let h = hinted g in
     let s = start h in (
-      begun (query (s .args .job .now)) (s .args .t .now) (x .store .last .0) (s .args .node) _ _ _ (s .pre .1) (s .pre .2) (h .start-hints .ensures)
-          (g .is-goal .ensures .0) (x .store .ensures) (s .pre .3),
+      begun (s .args .job .now) (s .args .t .now) (x .store .last .0) (s .args .node) _ _ _ (s .pre .1) (s .pre .2) (h .start-hints .ensures)
+          (g .is-goal .ensures .0) (x .store .ensures),
       g .is-goal .ensures .1,
     )
 

@@ -1,5 +1,4 @@
 -- The turns begin with the start node in slot 0.
-use mathlib.Core.Path.{refl}
 use native.Mathlib.Omega.{arith}
 use borrow.Author.Needs.{needs}
 use Rattle.search.proofs.StartLaws.{begun-idle, begun-ends}
@@ -19,20 +18,20 @@ began c = c .before .before .before .before .before .before
 begin-requires : tie.Need-begin-requires
 begin-requires c κs =
     let s = start c in
-    (s .pre .0 .accepted, s .pre .0 .clean, s .pre .0 .estimated, omega (arith, s .pre .0 .some-place, s .pre .0 .room), s .pre .1)
+    (s .pre .0 .accepted, s .pre .0 .clean, s .pre .0 .estimated .fits, omega (arith, s .pre .0 .some-place, s .pre .0 .room), s .pre .1)
 
 run-requires : tie.Need-run-requires
 run-requires c κs =
     let b = began c in
     let p = start (b .before) .pre .0 in
-    (begun-idle (p .accepted) (p .starts) (b .begin .ensures .0) (omega (arith, p .room)) (p .most) (p .some-place), b .begin .ensures .1)
+    (begun-idle p (b .begin .ensures .0) (omega arith), b .begin .ensures .1)
 
 returns : tie.Need-returns
 returns c =
     let r = c .before .before .before .before in
     let b = began (r .before) in
     let p = start (b .before) .pre .0 in
-    begun-ends (r .run .last .1 .1 .0) (r .run .result) (b .begin .ensures .0) (p .starts) (r .run .ensures) refl (p .some-place)
+    begun-ends p (b .begin .ensures .0) (r .run .last .1 .1 .0) (r .run .result) (r .run .ensures)
 
 pub from-start-spec : {M : Type 1} → statement M
 from-start-spec = tie.close (tie.spec begin-requires run-requires (λ c. search needs) (λ c. search needs) returns)

@@ -9,7 +9,8 @@ use borrow.Author.Needs.{needs}
 use Rattle.model.specs.calls.Search.{slotsIn}
 use Rattle.model.specs.job.Layout.{constraintCount, jobOf}
 use Rattle.model.specs.search.JobSystem.{startNode}
-use Rattle.model.specs.search.Query.{query}
+use Rattle.model.specs.search.Query.{query, jobFor}
+use Rattle.model.proofs.rights.Steps.{start-same}
 use Rattle.astar.specs.Search.{searchIn}
 use Rattle.nodes.specs.Meaning.{nodeIs}
 use Rattle.nodes.proofs.Arrivals.{leads-some, leads-none}
@@ -49,37 +50,38 @@ counted c = c .before .before
 -- ---- needs
 
 -- no constraint is dead at the start node
-starts : (c : tie.Else1) → startNode (jobOf (start (first c) .args .job .now))
-    ≡ some (nodeIs (constraintCount (start (first c) .args .job .now)) (first c .start .result .node))
-starts c = leads-some (first c .start .ensures) (not-false _ (c .if1 .left))
+starts : (c : tie.Else1) → let s = start (first c) .args in
+    startNode (jobFor (query (s .job .now) (s .usable))) ≡ some (nodeIs (constraintCount (s .job .now)) (first c .start .result .node))
+starts c = let s = start (first c) .args in start-same (s .usable) (jobOf (s .job .now)) ∙ leads-some (first c .start .ensures) (not-false _ (c .if1 .left))
 
 -- the start node has the estimate that was worked out
 has-estimate : (c : tie.After-left) → let f = first (alive (estimated c)) in
-    HasEstimate (query (start f .args .job .now)) (f .start .result .node) (c .left .given .0 .0)
+    HasEstimate (query (start f .args .job .now) (start f .args .usable)) (f .start .result .node) (c .left .given .0 .0)
 has-estimate c =
     let e = estimated c in
     let f = first (alive e) in
-    cost-estimated (query (start f .args .job .now)) (f .start .result .node) (e .estimate-of .ensures) (c .left .given .1)
+    cost-estimated (query (start f .args .job .now) (start f .args .usable)) (f .start .result .node) (e .estimate-of .ensures) (c .left .given .1)
 
 -- so it is reached
 reached : (c : tie.After-left) → let f = first (alive (estimated c)) in
-    let q = query (start f .args .job .now) in
-    sys q .start ≡ some (nodeFor q (f .start .result .node))
+    let q = query (start f .args .job .now) (start f .args .usable) in
+    sys q .start ≡ some (nodeFor (q .bytes) (f .start .result .node))
 reached c = reached-some _ (starts (alive (estimated c))) (has-estimate c)
 
 returns : tie.Need-returns
 returns c =
     let f = c .before .before in
     let s = start f .args in
-    let q = query (s .job .now) in
-    search-none (sys q) (slotsIn (s .t .now)) (reached-none q (leads-none (f .start .ensures) (not-true _ (c .if1 .taken))))
+    let q = query (s .job .now) (s .usable) in
+    search-none (sys q) (slotsIn (s .t .now))
+    (reached-none q (start-same (s .usable) (jobOf (s .job .now)) ∙ leads-none (f .start .ensures) (not-true _ (c .if1 .taken))))
 
 returns-2 : tie.Need-returns-2
 returns-2 c =
     let e = hopeless c in
     let f = first (alive e) in
     let s = start f .args in
-    let q = query (s .job .now) in
+    let q = query (s .job .now) (s .usable) in
     search-none (sys q) (slotsIn (s .t .now))
     (reached-hopeless q (starts (alive e)) (nothing-estimated q (f .start .result .node) (e .estimate-of .ensures) (c .enum-told .given .1)))
 
@@ -89,7 +91,7 @@ returns-3 c =
     let l = costs k in
     let e = alive (estimated l) in
     let s = start (first e) .args in
-    let q = query (s .job .now) in
+    let q = query (s .job .now) (s .usable) in
     search-small (sys q) (slotsIn (s .t .now)) (reached l) (sym (k .capacity .ensures .0) ∙ c .if2 .taken)
 
 in-workspace-requires : tie.Need-in-workspace-requires
@@ -112,7 +114,7 @@ returns-4 c =
     let w = c .before .before in
     let k = counted (w .before) in
     let s = start (first (alive (estimated (costs k)))) .args in
-    subst (λ (n : ℕ). EndsAs (w .in-workspace .last .1 .0) (w .in-workspace .result) (searchIn (sys (query (s .job .now))) n))
+    subst (λ (n : ℕ). EndsAs (w .in-workspace .last .1 .0) (w .in-workspace .result) (searchIn (sys (query (s .job .now) (s .usable))) n))
     (k .capacity .ensures .0) (w .in-workspace .ensures)
 
 pub searched-spec : {M : Type 1} → statement M

@@ -28,7 +28,8 @@ turn-at-requires c κs =
       s .pre .0,
       record {
         inside = least-inside (s .args .t .now) (s .args .n) _ _ (x .least .ensures) (i .i .given .1);
-        least = least-at (query (s .args .job .now)) (s .args .n) (s .args .t .now) (s .pre .0 .1 .sound) (idle-room (s .pre .0)) (x .least .ensures)
+        least = least-at (query (s .args .job .now) (s .args .terms .usable)) (s .args .n) (s .args .t .now) (s .pre .0 .1 .sound)
+            (idle-room (s .pre .0)) (x .least .ensures)
             (i .i .given .1);
       },
       s .pre .1,
@@ -39,8 +40,9 @@ returns-2 c =
     let e = c .before .before in
     let x = nothing e in
     let s = start x .args in (
-      nothing-ends (query (s .job .now)) (s .places) (s .n) (s .t .now)
-          (least-nothing (query (s .job .now)) (s .n) (s .t .now) (start x .pre .0 .1 .sound) (idle-room (start x .pre .0)) (x .least .ensures)
+      nothing-ends (query (s .job .now) (s .terms .usable)) (s .terms .places) (s .n) (s .t .now)
+          (least-nothing (query (s .job .now) (s .terms .usable)) (s .n) (s .t .now) (start x .pre .0 .1 .sound)
+          (idle-room (start x .pre .0)) (x .least .ensures)
           (e .enum-told .given .1)) (c .refusal .ensures),
       start x .pre .1,
     )

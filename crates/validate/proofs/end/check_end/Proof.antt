@@ -1,5 +1,6 @@
 -- `check_end` checks the goal, and after it the constraints.
-use Rattle.job.proofs.Accepted.{accepted-laid, length-constraints}
+use Rattle.model.proofs.job.Accepted.{length-constraints}
+use Rattle.job.proofs.Accepted.{accepted-laid}
 use mathlib.Core.Path.{_≡_, ap, _∙_}
 use Prim.Native.Nat.{ℕ}
 use mathlib.Core.Bool.{Bool}

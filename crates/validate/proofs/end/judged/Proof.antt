@@ -3,7 +3,7 @@ use mathlib.Core.Path.{sym, ap, _∙_}
 use Prim.Native.Nat.{ℕ}
 use Rattle.model.specs.declared.Validated.the-variants.{Passed}
 use Rattle.validate.specs.Walk.{judged}
-use Rattle.job.proofs.Accepted.{length-hints}
+use Rattle.model.proofs.job.Accepted.{length-hints}
 use Rattle.validate.proofs.Verdicts.{answer-bad, answer-fine}
 use borrow.Author.Needs.{needs}
 use Rattle.validate.proofs.end.judged.Statement.{statement}

@@ -1,6 +1,7 @@
 -- `make` adds the cost, and carries facts and residuals one world on.
 use native.Mathlib.Omega.{arith}
-use Rattle.job.proofs.Accepted.{accepted-laid, length-constraints, length-hints}
+use Rattle.model.proofs.job.Accepted.{length-constraints, length-hints}
+use Rattle.job.proofs.Accepted.{accepted-laid}
 use mathlib.Core.Path.{sym}
 use Rattle.model.specs.job.Layout.{jobOf}
 use Rattle.task.specs.Meaning.{actionIs}
