@@ -1,4 +1,6 @@
 // Truth tables of six unknowns in 64 bits, all settings at once.
+#![tactic(auto)]
+
 ghost use Rattle.std.specs.Prelude.{◌≡◌, true, false, ◌<◌, ◌^◌};
 ghost use Rattle.model.specs.logic.Parts.{most_parts};
 ghost use Rattle.model.specs.Bits.{bit};

@@ -3,6 +3,8 @@
 //   s  N K R L L  a search by a caller with rights R, with a plan buffer of N bytes (2, 3 or 64): the K needed rights, then the job of L bytes (low byte first)
 //   v  N K R L L  a read-through for such a caller: the K needed rights, then the N steps, then the job of L bytes
 //   w  N 0 0 V A  the rule of N bytes that follows, written back for V facts and A steps
+#![tactic(auto)]
+
 ghost use Rattle.std.specs.Prelude.{◌≡◌, ◌≤◌, ◌<◌, length};
 
 use libc::STDIN_FILENO;

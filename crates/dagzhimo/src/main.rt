@@ -1,4 +1,6 @@
 // Plans the job on standard input, of which it reads at most the first 8,192 bytes, and prints the plan or the refusal.
+#![tactic(auto)]
+
 use job::access;
 use libc::STDIN_FILENO;
 

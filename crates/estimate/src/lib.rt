@@ -1,6 +1,8 @@
 // The max estimate of what is left to pay from a state (card 2, after Bonet and Geffner 2001). The facts that can be built from the state are found at a
 // rising level of cost: an action is ready at the level at which all its needed facts are built, and ends its cost after that. Each turn goes on to the
 // soonest end of an action that adds a fact which is not built. Only the actions that the caller may use are counted (card 4).
+#![tactic(auto)]
+
 ghost use Rattle.std.specs.Prelude.{◌≡◌, ◌≤◌, ◌<◌};
 ghost use Rattle.model.specs.declared.Verdict.TheVariants.{Fine};
 ghost use Rattle.model.specs.job.Layout.{action_count, job_of};
@@ -19,14 +21,14 @@ const NEVER: u64 = 4294967296;
 const ACTIONS: usize = 64;
 
 // The estimate of a state. There is none where a goal fact cannot be built from the state.
-#[derive(Drop)]
+#[derive(Clone, Copy)]
 pub enum Estimated {
     Cost(u64),
     Nothing,
 }
 
 // The end of an action that adds facts which are not built, and the facts that it adds. Where there is no such action, the level is NEVER.
-#[derive(Drop)]
+#[derive(Clone, Copy)]
 struct Gain {
     level: u64,
     adds: u64,

@@ -1,4 +1,6 @@
 // All arrivals from one slot of the table: each action is followed in order, and what it leads to is held.
+#![tactic(auto)]
+
 mod made; // made.rt: the slots that arrivals make
 
 ghost use Rattle.std.specs.Prelude.{◌≡◌, ◌<◌};
@@ -18,14 +20,14 @@ use table::{Found, Slot, lookup, slots};
 use task::Key;
 
 // On which terms a search runs: the actions that the caller may use, one bit each, and how many slots the table has.
-#[derive(Drop)]
+#[derive(Clone, Copy)]
 pub struct Terms {
     pub usable: u64,
     pub places: usize,
 }
 
 // How many slots are in use, or that one more was wanted than there are.
-#[derive(Drop)]
+#[derive(Clone, Copy)]
 pub enum Grown {
     Held(usize),
     Full,

@@ -1,4 +1,6 @@
 // Reads formulas: where one ends or which byte of it is wrong, and how many carried parts it has.
+#![tactic(auto)]
+
 ghost use Rattle.std.specs.Prelude.{◌≡◌, ◌+◌, ◌≤◌, length, ◌||◌};
 ghost use Rattle.model.specs.logic.Formula.{code_of};
 ghost use Rattle.model.specs.logic.Reading.{parsed, section};
@@ -9,14 +11,14 @@ ghost use Rattle.model.specs.Verdict.{refusal};
 use model::{Binary, Code, Constant, MOST_PARTS, Refusal, Unary, Verdict};
 
 // The carried parts on the way: how many, counted up to the first that is too many, and the position of that one, the seventh.
-#[derive(Drop)]
+#[derive(Clone, Copy)]
 pub struct Seen {
     pub parts: usize,
     pub seventh: usize,
 }
 
 // The position after a formula, with the parts seen up to there; or the position of the first byte that is wrong.
-#[derive(Drop)]
+#[derive(Clone, Copy)]
 pub enum Extent {
     Whole(usize, Seen),
     Wrong(usize),

@@ -1,4 +1,6 @@
 // Reads jobs: refuses bytes that are no job, and gives what stands where in one that is accepted.
+#![tactic(auto)]
+
 ghost use Rattle.std.specs.Prelude.{◌≡◌};
 ghost use Rattle.model.specs.job.Decoding.{job_verdict};
 

@@ -1,5 +1,7 @@
 // The nodes of an accepted job as values, for the search. A node is nine numbers: the state, then the residual of each constraint, and 0 after the
 // last. The residuals of the hints, which a path carries beside its node, are eight numbers.
+#![tactic(auto)]
+
 ghost use Rattle.std.specs.Prelude.{◌≡◌, ◌∷◌, map, ◌+◌, ◌≤◌, ◌<◌, drop};
 ghost use Rattle.model.specs.declared.Verdict.TheVariants.{Fine};
 ghost use Rattle.model.specs.job.Job.{action_of};
@@ -19,7 +21,7 @@ use model::NODE;
 use task::{Action, State};
 
 // What an action leads to. Where it leads nowhere, alive is false and the node, clean as any, means nothing.
-#[derive(Drop)]
+#[derive(Clone, Copy)]
 pub struct Reached {
     pub alive: bool,
     pub node: [u64; NODE],

@@ -6,7 +6,7 @@ ghost use Rattle.normal.specs.Heading.{bytes_in, head0, head1, head2, head_numbe
 use model::{Binary, Code, Constant, Unary};
 
 // The bytes of a heading.
-#[derive(Drop)]
+#[derive(Clone, Copy)]
 pub enum Head {
     Nothing,
     Single(u8),

@@ -1,5 +1,7 @@
 // Writes a rule back in positive normal form. A formula is gone through byte by byte: a node's heading, the bytes that stand before its
 // operands in the normal form, and then the operands. `plain` is the sign: whether the formula is written, or its negation.
+#![tactic(auto)]
+
 pub mod heading;
 
 ghost use Rattle.std.specs.Prelude.{◌≡◌, true, false, length, get_or};
@@ -10,7 +12,7 @@ ghost use Rattle.normal.specs.Writing.{Room, ends_of, Stored};
 use model::{Code, Refusal, Rewritten, Verdict};
 
 // The position after what was read, and the position after what is written of it.
-#[derive(Drop)]
+#[derive(Clone, Copy)]
 pub struct Ends {
     pub next: usize,
     pub to: usize,

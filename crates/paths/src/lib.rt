@@ -1,4 +1,6 @@
 // The paths that the slots of a table stand for, followed from parent to parent: two of them compared, and one written out.
+#![tactic(auto)]
+
 ghost use Rattle.std.specs.Prelude.{◌≡◌, ◌++◌, ◌+◌, ◌*◌, ◌≤◌, ◌<◌, length, drop};
 ghost use Rattle.model.specs.calls.Search.{slot_bytes};
 ghost use Rattle.table.specs.Slots.{slot_at};

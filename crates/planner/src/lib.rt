@@ -1,4 +1,6 @@
 // The planner's functions for C: bytes in, numbers out. include/dagzhimo.h declares them.
+#![tactic(auto)]
+
 ghost use Rattle.std.specs.Prelude.{◌≡◌, ◌∷◌, leb};
 ghost use Rattle.model.specs.logic.Formula.{choose};
 ghost use Rattle.model.specs.calls.Call.{call};

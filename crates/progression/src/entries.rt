@@ -3,7 +3,7 @@ ghost use Rattle.std.specs.Prelude.{◌≡◌, true, ◌+◌, ◌*◌, ◌≤◌
 ghost use Rattle.progression.specs.Workspace.{written, asks, Recalls, Remembers};
 
 // What is asked: a section and an action in one number, a residual, and of the state the facts that the formula names.
-#[derive(Drop)]
+#[derive(Clone, Copy)]
 pub struct Question {
     pub key: u64,
     pub residual: u64,
@@ -11,7 +11,7 @@ pub struct Question {
 }
 
 // What the memo says to a question.
-#[derive(Drop)]
+#[derive(Clone, Copy)]
 pub enum Recalled {
     Answer(u64),
     Nothing,

@@ -1,5 +1,7 @@
 // The residuals of an accepted job's formulas, progressed together: those of the constraints in one array, those of the hints in another.
 // Formula i stands in section 1 + i, constraints first; entries after the last formula are 0.
+#![tactic(auto)]
+
 ghost use Rattle.std.specs.Prelude.{◌≡◌, ◌+◌, ◌≤◌, ◌<◌, take};
 ghost use Rattle.std.proofs.Math.Option.{none, some};
 ghost use Rattle.model.specs.declared.Verdict.TheVariants.{Fine};

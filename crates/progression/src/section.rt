@@ -49,7 +49,7 @@ pub fn closing(job: &[u8], i: usize, r: u64, state: u64) -> bool
 }
 
 // The facts and the actions that a formula names, as sets.
-#[derive(Drop)]
+#[derive(Clone, Copy)]
 pub struct Named {
     pub facts: u64,
     pub actions: u64,

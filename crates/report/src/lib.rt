@@ -1,4 +1,6 @@
 // Prints what a call gave, as document 01 words it: `plan 3 16` and one step number a line, or `refused 12 0`.
+#![tactic(auto)]
+
 use libc::STDOUT_FILENO;
 use model::{Rewritten, Validated};
 

@@ -10,7 +10,7 @@ ghost use Rattle.residual.specs.Residual.{Ready};
 use model::Code;
 
 // How far the pass is: the truths that were read, and the position of the next code.
-#[derive(Drop)]
+#[derive(Clone, Copy)]
 struct Reading {
     truths: u64,
     at: usize,

@@ -1,5 +1,7 @@
 // What a formula leaves after a world: a truth table of its carried parts. One pass over the formula's bytes reads the truths of its fact codes; a
 // walk over them, which is given these truths and no state, makes the table.
+#![tactic(auto)]
+
 ghost use Rattle.std.specs.Prelude.{◌≡◌, true, false, ◌+◌, ◌<◌, ◌≤◌};
 ghost use Rattle.std.proofs.Math.Option.{none, some};
 ghost use Rattle.model.specs.logic.Parts.{most_parts};
@@ -16,7 +18,7 @@ mod facts; // facts.rt: the truths of a formula's fact codes
 
 // What is known of a world: the truths of the formula's fact codes, the number of the action that was made (255 where none was), and whether it is the
 // closing one.
-#[derive(Drop)]
+#[derive(Clone, Copy)]
 struct Moment {
     truths: u64,
     action: u8,
@@ -24,7 +26,7 @@ struct Moment {
 }
 
 // What a formula comes to: its truth table, the position after it, and the number of the first carried part after it.
-#[derive(Drop)]
+#[derive(Clone, Copy)]
 struct Value {
     table: u64,
     next: usize,
@@ -118,7 +120,7 @@ fn inner_number(carried: bool, own: usize) -> usize
 }
 
 // How a formula counts among the parts: whether it is one, the number of its own unknown, and that of the first part inside.
-#[derive(Drop)]
+#[derive(Clone, Copy)]
 struct Numbering {
     part: bool,
     own: usize,

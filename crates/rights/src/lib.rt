@@ -1,5 +1,7 @@
 // What a caller may use. Refuses a call whose bytes are no job or whose list of needed rights does not fit the job, and gives the steps whose needed rights
 // the caller holds.
+#![tactic(auto)]
+
 ghost use Rattle.std.specs.Prelude.{◌≡◌, ◌+◌, ◌*◌, ◌^◌, ◌≤◌, ◌<◌, length};
 ghost use Rattle.model.specs.Bits.{digit};
 ghost use Rattle.model.specs.task.State.{within};
@@ -11,7 +13,7 @@ use job::{access, checks};
 use model::{Refusal, Verdict};
 
 // What a call comes to before its search or its read-through: the steps that the caller may use, one bit each, or a refusal.
-#[derive(Drop)]
+#[derive(Clone, Copy)]
 pub enum Accepted {
     Usable(u64),
     Refused(Refusal),

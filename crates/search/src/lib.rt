@@ -1,4 +1,6 @@
 // The search on the bytes of a job, in a table of slots that the caller lends.
+#![tactic(auto)]
+
 mod goals; // goals.rt: the goals of a key, and cut nodes
 mod turns; // turns.rt: one turn of the search, and all of them
 mod start; // start.rt: the start node, and the search from it
@@ -16,7 +18,7 @@ use table::slots;
 
 // What a search in a table comes to: the slot of the answer and how many slots are in use; the number of a refusal, 11 or 12; or that the
 // table is full.
-#[derive(Drop)]
+#[derive(Clone, Copy)]
 enum Ended {
     Goal(usize, usize),
     NoPlan(u8),
@@ -24,7 +26,7 @@ enum Ended {
 }
 
 // What one turn comes to: so many slots are in use, or the search ends.
-#[derive(Drop)]
+#[derive(Clone, Copy)]
 enum Turn {
     On(usize),
     End(Ended),

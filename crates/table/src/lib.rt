@@ -1,4 +1,6 @@
 // A table of slots in bytes that a caller lends. Every operation is an equation on the list of its slots.
+#![tactic(auto)]
+
 use model::NODE;
 
 mod cells; // cells.rt: words of 64 bits, and rows of them
@@ -8,7 +10,7 @@ pub mod lookup; // lookup.rt: the slot of a node, and the open slot of the least
 
 // What a slot holds: a node, the state and then the residual of each constraint; the residuals of the hints; the key of the least path so
 // far; the estimate of the cost that is left; the slot and the action that it came from; whether it was taken, and whether it is a goal.
-#[derive(Drop)]
+#[derive(Clone, Copy)]
 pub struct Slot {
     pub node: [u64; NODE],
     pub hints: [u64; 8],
@@ -22,14 +24,14 @@ pub struct Slot {
 }
 
 // A slot's number, if there is one.
-#[derive(Drop)]
+#[derive(Clone, Copy)]
 pub enum Found {
     At(usize),
     Nothing,
 }
 
 // The best open slot so far with its rank, which is cost plus estimate, then steps, if there is one.
-#[derive(Drop)]
+#[derive(Clone, Copy)]
 pub enum Best {
     Open(usize, u64, u64),
     NoOpen,

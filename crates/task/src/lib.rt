@@ -1,4 +1,6 @@
 // Actions, states and keys as values: what an action does to a state, and how keys of paths compare.
+#![tactic(auto)]
+
 ghost use Rattle.std.specs.Prelude.{◌≡◌, ◌+◌, ◌-◌, ◌*◌, ◌≤◌, ◌<◌, ◌^◌, length, get_or, map};
 ghost use Rattle.std.specs.Int.Bits.{bit_and};
 ghost use Rattle.model.specs.Bits.{digit};
@@ -9,7 +11,7 @@ ghost use Rattle.task.specs.Meaning.{action_is, key_is};
 ghost use Rattle.task.specs.Applicable.{applicable_set};
 
 // Document 01 calls an action a step. Each of the four sets is a number whose bit i is fact i.
-#[derive(Drop)]
+#[derive(Clone, Copy)]
 pub struct Action {
     pub pre: u64,
     pub add: u64,
@@ -26,7 +28,7 @@ fn without(xs: u64, ys: u64) -> u64
 }
 
 // The facts that are true.
-#[derive(Drop)]
+#[derive(Clone, Copy)]
 pub struct State {
     pub facts: u64,
 }
@@ -56,7 +58,7 @@ impl State {
 }
 
 // The cost of a path, and its number of actions.
-#[derive(Drop)]
+#[derive(Clone, Copy)]
 pub struct Key {
     pub cost: u64,
     pub steps: u64,

@@ -1,4 +1,6 @@
 // The read-through: refuses a step list that is no allowed plan of a job for its caller, or gives its cost and which hints it meets.
+#![tactic(auto)]
+
 ghost use Rattle.std.specs.Prelude.{◌≡◌, ◌≤◌, length};
 ghost use Rattle.model.specs.declared.Verdict.TheVariants.{Fine};
 ghost use Rattle.model.specs.declared.Validated.TheVariants.{Passed};

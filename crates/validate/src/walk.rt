@@ -15,7 +15,7 @@ use model::Verdict;
 use task::State;
 
 // What the steps made so far lead to: the facts, the summed cost, and what constraints and hints have left.
-#[derive(Drop)]
+#[derive(Clone, Copy)]
 pub struct Walk {
     pub facts: u64,
     pub cost: u64,

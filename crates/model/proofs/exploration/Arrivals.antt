@@ -144,5 +144,9 @@ module _ (S : System) where
     where
       go : (a : Bool) → less y.key x.key ≡ a → All (λ z. Le (least S x ys).key z.key) (x ∷ ys) → All (λ z. Le (least S y ys).key z.key) (y ∷ ys)
           → All (λ z. Le (least S x (y ∷ ys)).key z.key) (x ∷ y ∷ ys)
-      go true e s t = rw (e, least) (le_trans _ _ _ t.0 (lt_le _ _ (less_yes _ _ e)), t)
-      go false e s t = rw (e, least) (s.0, (le_trans _ _ _ s.0 (less_no _ _ e), s.1))
+      go true e s t =
+          let p : least S y ys ≡ least S x (y ∷ ys) = rw (e, least) refl in
+          subst (λ (k : Entry S). All (λ z. Le k.key z.key) (x ∷ y ∷ ys)) p (le_trans _ _ _ t.0 (lt_le _ _ (less_yes _ _ e)), t)
+      go false e s t =
+          let p : least S x ys ≡ least S x (y ∷ ys) = rw (e, least) refl in
+          subst (λ (k : Entry S). All (λ z. Le k.key z.key) (x ∷ y ∷ ys)) p (s.0, (le_trans _ _ _ s.0 (less_no _ _ e), s.1))

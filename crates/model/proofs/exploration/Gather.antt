@@ -111,5 +111,10 @@ module _ (S : System) where
             let q = alike_at c x e in
             let r = s (merge_fit c x q a h.0) in
             let f = first_of_first c.path x.path (a.1 ∙ ap (λ (k : Key). k.steps) (sym q.1) ∙ sym h.0.1) in
-            rw (e, gather) (first_trans _ _ _ r.0 f.0, (λ q'. first_trans _ _ _ r.0 f.1, r.1))
-        go false e s t = rw (e, gather) (t.0, (λ q. absurd (true≢false (sym (at_alike c x q) ∙ e)), t.1))
+            let p : gather S (merge S c x) xs ≡ gather S c (x ∷ xs) = rw (e, gather) refl in
+            subst (λ (k : Entry S). First k.path c.path × All (λ z. At c z → First k.path z.path) (x ∷ xs)) p
+            (first_trans _ _ _ r.0 f.0, (λ q'. first_trans _ _ _ r.0 f.1, r.1))
+        go false e s t =
+            let p : gather S c xs ≡ gather S c (x ∷ xs) = rw (e, gather) refl in
+            subst (λ (k : Entry S). First k.path c.path × All (λ z. At c z → First k.path z.path) (x ∷ xs)) p
+            (t.0, (λ q. absurd (true≢false (sym (at_alike c x q) ∙ e)), t.1))

@@ -107,8 +107,13 @@ module _ (S : System) where
           more e l (inr f) = inr (grow e Outs (arrivals S L) (later e l) f)
 
           founded_go : (a : Bool) → is_cut S c ≡ a → All (λ e. (e ≡ s0) ⊎ Gathered (arrivals S (c ∷ L)) e) (c ∷ L)
-          founded_go true e = rw (e, arrivals) (inr base, inv.founded)
-          founded_go false e = rw (e, arrivals) (more c (le_refl _) (inr base), all_map₂ _ _ _ more L high inv.founded)
+          founded_go true e =
+              let p : arrivals S L ≡ arrivals S (c ∷ L) = rw (e, arrivals) refl in
+              subst (λ (ys : List (Entry S)). All (λ z. (z ≡ s0) ⊎ Gathered ys z) (c ∷ L)) p (inr base, inv.founded)
+          founded_go false e =
+              let p : Outs ++ arrivals S L ≡ arrivals S (c ∷ L) = rw (e, arrivals) refl in
+              subst (λ (ys : List (Entry S)). All (λ z. (z ≡ s0) ⊎ Gathered ys z) (c ∷ L)) p
+              (more c (le_refl _) (inr base), all_map₂ _ _ _ more L high inv.founded)
 
     -- ---- the next entry
 
