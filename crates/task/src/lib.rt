@@ -97,8 +97,7 @@ impl Key {
     }
 }
 
-// One action of a lent list, which is read and never written. A slice of structs is not covered by the borrow checker, so each function that takes one
-// or lends one is thin, and its proof is a walk by hand: this one, applicable_in and applicable_set.
+// One action of a lent list, which is read and never written.
 pub fn action_at(actions: &[Action], i: usize) -> Action
     requires { i < length actions.now }
     ensures { action_is result ≡ get_or (map action_is actions.now) i no_action }
