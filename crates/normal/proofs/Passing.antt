@@ -44,6 +44,10 @@ pub record Met (s : List ℕ) (at : ℕ) (b : Bool) (to size : ℕ) (k : Code) :
   pub room : Room (parsed 64 64 s at) b to size
   pub code : k ≡ code_of (get_or s at 0)
 
+pub met : {s : List ℕ} {at : ℕ} {b : Bool} {to size : ℕ} {k : Code} → Room (parsed 64 64 s at) b to size → k ≡ code_of (get_or s at 0)
+    → Met s at b to size k
+met r e = record { room = r; code = e }
+
 module _ {s : List ℕ} {at : ℕ} {b : Bool} {to size : ℕ} {k : Code} (m : Met s at b to size k) where
   -- what was read here is what its code asks to read
   told : (j : Code) → k ≡ j → parsed 64 64 s at ≡ operands 64 64 s j (parsed 64 64 s) at
@@ -93,6 +97,11 @@ module _ {s : List ℕ} {at : ℕ} {b : Bool} {to size : ℕ} {k : Code} (m : Me
 pub record Passed (s : List ℕ) (at : ℕ) (b : Bool) (to size : ℕ) (k : Code) (j : ℕ) : Type 0 where
   pub met : Met s at b to size k
   pub moved : j ≡ to + length (heading k (get_or s (at + 1) 0) b)
+
+-- n is the byte after the code
+pub passed : {s : List ℕ} {at : ℕ} {b : Bool} {to size : ℕ} {k : Code} {n j : ℕ} → Room (parsed 64 64 s at) b to size
+    → k ≡ code_of (get_or s at 0) → n ≡ get_or s (at + 1) 0 → j ≡ to + length (heading k n b) → Passed s at b to size k j
+passed r e f g = record { met = met r e; moved = rw (← f) g }
 
 module _ {s : List ℕ} {at : ℕ} {b : Bool} {to size : ℕ} {k : Code} {j : ℕ} (g : Passed s at b to size k j) where
   -- what is left of the text has room

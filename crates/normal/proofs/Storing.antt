@@ -13,11 +13,12 @@ use Rattle.model.specs.declared.Unary.{Unary}
 use Rattle.model.specs.declared.Binary.{Binary}
 use Rattle.model.specs.declared.Code.{Code}
 use Rattle.model.specs.declared.Code.TheVariants.{Leaf, Fact, Action, One, Two}
+use Rattle.model.specs.logic.Formula.{code_of}
 use Rattle.model.specs.logic.Reading.{Parsed, parsed}
 use Rattle.normal.specs.declared.Ends.{Ends}
 use Rattle.normal.specs.Heading.{heading, sign}
 use Rattle.normal.specs.Writing.{behind, bytes_of, Room, Stored}
-use Rattle.normal.proofs.Passing.{Passed, NodeHere, leaf_node, number_node, one_node, two_node}
+use Rattle.normal.proofs.Passing.{Passed, passed, NodeHere, leaf_node, number_node, one_node, two_node}
 use Rattle.normal.proofs.Passing.{leaf_ends, number_ends, one_asks, one_ends, two_asks, two_asks', two_ends}
 
 -- two runs of stores, one after the other
@@ -31,6 +32,12 @@ sets-append (x ∷ xs) ys l i =
 pub record Begun (s : List ℕ) (at : ℕ) (b : Bool) (to : ℕ) (out : List ℕ) (k : Code) (j : ℕ) (out₁ : List ℕ) : Type 0 where
   pub passed : Passed s at b to (length out) k j
   pub stored : out₁ ≡ sets out to (heading k (get_or s (at + 1) 0) b)
+
+-- n is the byte after the code
+pub begun : {s : List ℕ} {at : ℕ} {b : Bool} {to : ℕ} {out : List ℕ} {k : Code} {n j : ℕ} {out₁ : List ℕ}
+    → Room (parsed 64 64 s at) b to (length out) → k ≡ code_of (get_or s at 0) → n ≡ get_or s (at + 1) 0
+    → (j ≡ to + length (heading k n b)) × (out₁ ≡ sets out to (heading k n b)) → Begun s at b to out k j out₁
+begun r e f h = record { passed = passed r e f h.0; stored = rw (← f) h.1 }
 
 module _ {s : List ℕ} {at : ℕ} {b : Bool} {to : ℕ} {out : List ℕ} {k : Code} {j : ℕ} {out₁ : List ℕ} (g : Begun s at b to out k j out₁) where
   abbrev Written : Ends → List ℕ → Type 0
