@@ -6,19 +6,17 @@ use mathlib.Core.Option.{none, some}
 use native.Mathlib.Omega.{arith}
 use lib.Dec.{ltb, eqb}
 use borrow.Author.Tests.{ltb-false, ne_eqb}
-use Rattle.model.specs.declared.Constant.{Constant}
 use Rattle.model.specs.declared.Unary.{Unary}
 use Rattle.model.specs.declared.Unary.TheVariants.{Not, Next, Eventually, Always}
 use Rattle.model.specs.declared.Binary.{Binary}
 use Rattle.model.specs.Bits.{bit}
-use Rattle.model.specs.logic.Formula.{Formula, constant, fact, action, unary, binary, choose}
-use Rattle.model.specs.logic.Parts.{most_parts, size, count, temporal, temporal1, temporal2}
+use Rattle.model.specs.logic.Formula.{Formula, unary, binary, choose}
+use Rattle.model.specs.logic.Parts.{size, count, temporal, temporal1, temporal2}
 use Rattle.model.specs.logic.Truth.{is_made}
 use Rattle.model.proofs.bits.Bits.{bit_of_bits, of_bits_cong}
-use Rattle.bits.specs.Tables.{everywhere}
 use Rattle.formula.specs.Extent.{is_next}
-use Rattle.residual.specs.Facts.{Valuation, truth_bit}
-use Rattle.residual.specs.Node.{made_by, truth, truth0, truth1, truth2, of_nothing1, of_nothing2, ahead, after, table_of, ahead_table, table1, table2}
+use Rattle.residual.specs.Facts.{Valuation}
+use Rattle.residual.specs.Node.{made_by, truth, truth1, truth2, of_nothing1, of_nothing2, ahead, after, table_of, ahead_table, table1, table2}
 use Rattle.residual.specs.Walk.{starts}
 
 -- an action was made if it is the one that the code has
@@ -39,19 +37,6 @@ module _ (closing : Bool) (v : Valuation) where
   bit_ahead : (nothing : Bool) (n k : ℕ) → k < 64 → bit (ahead_table closing nothing n) k ≡ ahead closing nothing (bit k n)
   unfolding ahead_table
   bit_ahead nothing n k h = bit_of_bits 64 (λ j. ahead closing nothing (bit j n)) k h
-
-  -- ---- no operand: the table is constant, since the parts count for nothing
-  pub table_constant : (c : Constant) (at n : ℕ) → everywhere most_parts (truth0 closing c) ≡ table_of closing v (constant c) at n
-  unfolding everywhere table_of truth
-  table_constant c at n = refl
-
-  pub table_fact : (i at n : ℕ) → everywhere most_parts (bit v.truths (truth_bit at)) ≡ table_of closing v (fact i) at n
-  unfolding everywhere table_of truth
-  table_fact i at n = refl
-
-  pub table_action : (a at n : ℕ) → everywhere most_parts (is_made v.made a) ≡ table_of closing v (action a) at n
-  unfolding everywhere table_of truth
-  table_action a at n = refl
 
   -- ---- one operand
 

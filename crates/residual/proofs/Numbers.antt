@@ -47,7 +47,13 @@ behind_le (unary o φ) under n =
     )
 behind_le (binary o φ ψ) under n =
     let m : ℕ = after (temporal2 o) (starts under (temporal2 o) n) in
-    omega (arith, starts_le under (temporal2 o) n, after_le (temporal2 o) (starts under (temporal2 o) n), behind_le φ false m, behind_le ψ false (behind φ false m))
+    omega (
+      arith,
+      starts_le under (temporal2 o) n,
+      after_le (temporal2 o) (starts under (temporal2 o) n),
+      behind_le φ false m,
+      behind_le ψ false (behind φ false m),
+    )
 
 -- ---- they come to the count
 
@@ -164,11 +170,6 @@ part_below true true i h e = omega arith
 part_below true false i h e = omega arith
 part_below false true i h e = omega arith
 part_below false false i h e = let z : ◌≡◌ {A = ℕ} 0 1 = cc in omega arith
-
--- the same of a formula that is one only as the operand of a next
-pub under_below : (under : Bool) (i : ℕ) → starts under false i ≤ most_parts → under ≡ true → i < most_parts
-under_below true i h e = omega arith
-under_below false i h e = let z : ◌≡◌ {A = ℕ} 0 1 = cc in omega arith
 
 -- the numbers from the start of a formula on are those of unknowns, if those inside are
 pub first_le : (under carried : Bool) (i : ℕ) → after carried (starts under carried i) ≤ most_parts → i ≤ most_parts

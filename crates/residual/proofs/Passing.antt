@@ -3,14 +3,10 @@ use mathlib.Core.Path.{◌≡◌, refl, sym, ap, ◌∙◌, subst}
 use Prim.Native.Nat.{ℕ, suc, ◌+◌, ◌*◌, ◌^◌, ◌<◌, ◌≤◌, ◌%◌}
 use native.Mathlib.Omega.{arith}
 use mathlib.Core.List.{List, [], ◌∷◌}
-use mathlib.Core.Logic.{inl, inr}
 use lib.Bits.{bit_or, or_zero_r}
 use lib.Pow.{shl_exact}
 use lib.Dec.{eqb}
 use lib.ListN.{length, get_or}
-use denote.Enum.Declared.{tag_of}
-use types.Run.{OneOf}
-use Rattle.model.specs.contracts.Code as Codes
 use Rattle.model.specs.declared.Code.{Code}
 use Rattle.model.specs.declared.Code.TheVariants.{Leaf, Fact, Action, One, Two, Unknown}
 use Rattle.model.specs.Bits.{bit, digit}
@@ -30,31 +26,20 @@ use Rattle.residual.specs.Residual.{Ready}
 pub shifted_digit : (x k : ℕ) → k < 64 → (x % 2 * 2 ^ k) % 2 ^ 64 ≡ digit (eqb (x % 2) 1) * 2 ^ k
 shifted_digit x k l = shl_exact 1 k 64 (omega arith) (omega arith) ∙ ap (λ (d : ℕ). d * 2 ^ k) (digit_of (x % 2) (omega arith))
 
--- what the code at a position decides is what is read there
-pub read_as : (s : List ℕ) (state : ℕ) (r x : Reading) (k c : Code) → k ≡ code_of (get_or s r.at 0) → k ≡ c → x ≡ read_by c s state r → x ≡ read_code s state r
+-- what the code at the position decides is what is read there
+pub read_as : (s : List ℕ) (state : ℕ) (r : Reading) (c : Code) → c ≡ code_of (get_or s r.at 0) → read_by c s state r ≡ read_code s state r
 unfolding read_code
-read_as s state r x k c e g h = h ∙ ap (λ (y : Code). read_by y s state r) (sym g ∙ e)
+read_as s state r c e = ap (λ (x : Code). read_by x s state r) e
 
--- the tags of the codes that have no number: Leaf, One, Two, Unknown
-abbrev plain_tags : List ℕ
-plain_tags = 0 ∷ 3 ∷ 4 ∷ 5 ∷ []
-
--- those of Fact and Action, 1 and 2, are not among them
-other_tag : (x : ℕ) → OneOf plain_tags x → 1 ≤ x → x ≤ 2 → ⊥
-other_tag x (inl e) l m = omega arith
-other_tag x (inr (inl e)) l m = omega arith
-other_tag x (inr (inr (inl e))) l m = omega arith
-other_tag x (inr (inr (inr e))) l m = omega arith
-
--- after a code that has no number the pass is one byte further on
-pub other_code : (c : Code) (s : List ℕ) (state : ℕ) (r : Reading) → OneOf plain_tags (tag_of Codes.the_type c)
+-- after a code that has no number, not Fact or Action, the pass is one byte further on
+pub other_code : (c : Code) (s : List ℕ) (state : ℕ) (r : Reading) → ¬ c ≡ Fact → ¬ c ≡ Action
     → read_by c s state r ≡ record { truths = r.truths; at = r.at + 1 }
-other_code (Leaf k) s state r h = refl
-other_code Fact s state r h = absurd (other_tag 1 h (omega arith) (omega arith))
-other_code Action s state r h = absurd (other_tag 2 h (omega arith) (omega arith))
-other_code (One o) s state r h = refl
-other_code (Two o) s state r h = refl
-other_code Unknown s state r h = refl
+other_code (Leaf k) s state r f a = refl
+other_code Fact s state r f a = absurd (f refl)
+other_code Action s state r f a = absurd (a refl)
+other_code (One o) s state r f a = refl
+other_code (Two o) s state r f a = refl
+other_code Unknown s state r f a = refl
 
 -- after every code the pass is further on
 further_by : (c : Code) (s : List ℕ) (state : ℕ) (r : Reading) → r.at < (read_by c s state r).at

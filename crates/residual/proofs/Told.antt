@@ -70,7 +70,8 @@ module _ (s : ℕ) where
       let x : ℕ = fact_truths φ (suc at) s in
       let y : ℕ = fact_truths ψ (suc at + size φ) s in (
         tells f φ (suc at)
-            (λ k l m. h k (omega arith) (omega arith) ∙ bit_or_lem x y k ∙ ap (λ (b : Bool). bit x k || b) (below ψ (suc at + size φ) k m) ∙ or-false (bit x k)),
+            (λ k l m. h k (omega arith) (omega arith) ∙ bit_or_lem x y k
+            ∙ ap (λ (b : Bool). bit x k || b) (below ψ (suc at + size φ) k m) ∙ or-false (bit x k)),
         tells f ψ (suc at + size φ)
             (λ k l m. h k (omega arith) (omega arith) ∙ bit_or_lem x y k ∙ ap (λ (b : Bool). b || bit y k) (above φ (suc at) k l)),
       )
