@@ -1,6 +1,6 @@
-/* The planner's functions for C. `rt staticlib planner` makes the library; link it:
+/* The planner's functions for C. `rt lib` in crates/planner makes the library; link it:
  *
- *     cc control.c -Iinclude target/staticlib/libplanner.a
+ *     cc control.c -Iinclude crates/planner/out/libplanner.a
  *
  * docs/JOB.md has the bytes of a job, in both forms of its task section: with forbidden facts, and without.
  *
