@@ -1,13 +1,13 @@
-// Runs cases of document 01 and of the cards, one after the other from standard input, and prints what each gives.
+// Runs the cases on standard input, of which it reads at most the first 16,384 bytes, one after the other, and prints what each gives.
 // A case is a letter and five bytes, then its bytes:
 //   s  N K R L L  a search by a caller with rights R, with a plan buffer of N bytes (2, 3 or 64): the K needed rights, then the job of L bytes (low byte first)
 //   v  N K R L L  a read-through for such a caller: the K needed rights, then the N steps, then the job of L bytes
 //   w  N 0 0 V A  the rule of N bytes that follows, written back for V facts and A steps
 #![tactic(auto)]
 
-ghost use Rattle.std.specs.Prelude.{◌≡◌, ◌≤◌, ◌<◌, length};
+ghost use Rattle.std.specs.Prelude.{◌≡◌, ◌+◌, ◌≤◌, ◌<◌, IfOk, length};
 
-use libc::STDIN_FILENO;
+use std::io;
 
 fn wide(x: u8) -> usize
     ensures { (result ≡ x) × (result < 256) }
@@ -16,87 +16,127 @@ fn wide(x: u8) -> usize
 }
 
 // A search with a table of 65,536 bytes.
-fn search(job: &[u8], needs: &[u8], rights: u8, plan: &mut [u8]) {
+fn search(
+    to: &impl Print,
+    job: &[u8],
+    needs: &[u8],
+    rights: u8,
+    plan: &mut [u8],
+) -> io::Result<()> {
     let mut table = [0u8; 65536];
     let mut told = [0u64; 3];
     let part = search::planned(job, needs, rights, &mut table, plan, &mut told);
-    report::planned(told, part);
+    report::planned(to, told, part)
 }
 
 // A search with a plan buffer of 2 or 3 bytes, or of 64.
-fn search_in(job: &[u8], needs: &[u8], rights: u8, room: usize) {
+fn search_in(to: &impl Print, job: &[u8], needs: &[u8], rights: u8, room: usize) -> io::Result<()> {
     if room == 2 {
         let mut plan = [255u8; 2];
-        search(job, needs, rights, &mut plan);
+        search(to, job, needs, rights, &mut plan)
     } else if room == 3 {
         let mut plan = [255u8; 3];
-        search(job, needs, rights, &mut plan);
+        search(to, job, needs, rights, &mut plan)
     } else {
         let mut plan = [255u8; 64];
-        search(job, needs, rights, &mut plan);
+        search(to, job, needs, rights, &mut plan)
     }
 }
 
-fn write_back(rule: &[u8], facts: u8, actions: u8) {
+fn write_back(to: &impl Print, rule: &[u8], facts: u8, actions: u8) -> io::Result<()> {
     let mut out = [255u8; 512];
     let end = normal::write_back(facts, actions, rule, &mut out);
-    report::rewritten(end, &out);
+    report::rewritten(to, end, &out)
+}
+
+// A number of two bytes, the low byte first.
+fn size_at(input: &[u8], at: usize) -> usize
+    requires { at + 2 ≤ length input.now }
+    ensures { result < 65536 }
+{
+    wide(input[at]) + wide(input[at + 1]) * 256
+}
+
+// A search, and the position of the next case, as `run` gives it.
+fn search_case(to: &impl Print, input: &[u8], at: usize) -> io::Result<usize>
+    requires { at + 6 ≤ length input.now }
+    ensures { IfOk result (λ next. (at < next) × (next ≤ length input.now)) }
+{
+    let from = at + 6;
+    let listed = from + wide(input[at + 2]);
+    let end = listed + size_at(input, at + 4);
+    if input.len() < end {
+        return Ok(input.len());
+    }
+    let room = wide(input[at + 1]);
+    search_in(
+        to,
+        &input[listed..end],
+        &input[from..listed],
+        input[at + 3],
+        room,
+    )?;
+    Ok(end)
+}
+
+// A read-through, and the position of the next case, as `run` gives it.
+fn read_through_case(to: &impl Print, input: &[u8], at: usize) -> io::Result<usize>
+    requires { at + 6 ≤ length input.now }
+    ensures { IfOk result (λ next. (at < next) × (next ≤ length input.now)) }
+{
+    let from = at + 6;
+    let listed = from + wide(input[at + 2]);
+    let middle = listed + wide(input[at + 1]);
+    let end = middle + size_at(input, at + 4);
+    if input.len() < end {
+        return Ok(input.len());
+    }
+    let needs = &input[from..listed];
+    let steps = &input[listed..middle];
+    let read = validate::validate(&input[middle..end], needs, input[at + 3], steps);
+    report::validated(to, read)?;
+    Ok(end)
+}
+
+// A rule written back, and the position of the next case, as `run` gives it.
+fn write_back_case(to: &impl Print, input: &[u8], at: usize) -> io::Result<usize>
+    requires { at + 6 ≤ length input.now }
+    ensures { IfOk result (λ next. (at < next) × (next ≤ length input.now)) }
+{
+    let listed = at + 6 + wide(input[at + 2]);
+    let end = listed + wide(input[at + 1]);
+    if input.len() < end {
+        return Ok(input.len());
+    }
+    write_back(to, &input[listed..end], input[at + 4], input[at + 5])?;
+    Ok(end)
 }
 
 // The case at a position of the input, and the position of the next one: the input's end where it is cut off.
-fn run(input: &[u8], at: usize) -> usize
+fn run(to: &impl Print, input: &[u8], at: usize) -> io::Result<usize>
     requires { at < length input.now }
-    ensures { (at < result) × (result ≤ length input.now) }
+    ensures { IfOk result (λ next. (at < next) × (next ≤ length input.now)) }
 {
-    let size = input.len();
-    if size - at < 6 {
-        return size;
+    if input.len() - at < 6 {
+        return Ok(input.len());
     }
-    let kind = input[at];
-    let n = wide(input[at + 1]);
-    let rights = input[at + 3];
-    let low = wide(input[at + 4]);
-    let high = wide(input[at + 5]);
-    let from = at + 6;
-    let listed = from + wide(input[at + 2]);
-    if kind == b's' {
-        let end = listed + low + high * 256;
-        if size < end {
-            return size;
-        }
-        search_in(&input[listed..end], &input[from..listed], rights, n);
-        return end;
+    match input[at] {
+        b's' => search_case(to, input, at),
+        b'w' => write_back_case(to, input, at),
+        _ => read_through_case(to, input, at),
     }
-    let middle = listed + n;
-    if size < middle {
-        return size;
-    }
-    if kind == b'w' {
-        write_back(&input[listed..middle], input[at + 4], input[at + 5]);
-        return middle;
-    }
-    let end = middle + low + high * 256;
-    if size < end {
-        return size;
-    }
-    report::validated(validate::validate(
-        &input[middle..end],
-        &input[from..listed],
-        rights,
-        &input[listed..middle],
-    ));
-    end
 }
 
-fn run_all(input: &[u8]) {
+fn run_all(to: &impl Print, input: &[u8]) -> io::Result<()> {
     let mut at = 0;
     while at < input.len() {
-        at = run(input, at);
+        at = run(to, input, at)?;
     }
+    Ok(())
 }
 
-fn main() {
+fn main(rt: HostRuntime) -> io::Result<()> {
     let mut input = [0u8; 16384];
-    let n = io::read_full(STDIN_FILENO, &mut input);
-    run_all(&input[..n]);
+    let n = input::read_full(&mut rt.stdin(), &mut input)?;
+    run_all(&rt, &input[..n])
 }

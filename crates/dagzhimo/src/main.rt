@@ -2,23 +2,23 @@
 #![tactic(auto)]
 
 use job::access;
-use libc::STDIN_FILENO;
+use std::io;
 
 // Searches for a caller without rights, and prints what comes of it.
-fn plan(job: &[u8], needs: &[u8]) {
+fn plan(to: &impl Print, job: &[u8], needs: &[u8]) -> io::Result<()> {
     let mut table = [0u8; 65536];
     let mut steps = [0u8; 1024];
     let mut told = [0u64; 3];
     let part = search::planned(job, needs, 0, &mut table, &mut steps, &mut told);
-    report::planned(told, part);
+    report::planned(to, told, part)
 }
 
-// The list of needed rights is a zero for each step, so every step may be used. Where fewer than four bytes were read, there is no number of steps; they
-// are no job, and refused before the list is looked at.
-fn main() {
+// Lends a zero for each step as the list of needed rights, so that every step may be used; fewer than four bytes are no job, and are refused before
+// that list is looked at.
+fn main(rt: HostRuntime) -> io::Result<()> {
     let mut job = [0u8; 8192];
-    let n = io::read_full(STDIN_FILENO, &mut job);
+    let n = input::read_full(&mut rt.stdin(), &mut job)?;
     let needs = [0u8; 256];
     let steps = access::wide(access::action_count(&job));
-    plan(&job[..n], &needs[..steps]);
+    plan(&rt, &job[..n], &needs[..steps])
 }
