@@ -110,7 +110,8 @@ module _ (bytes : List ℕ) where
 
         -- All of the first i are true of the closing world, and the next is too.
         pub close_on : (i : ℕ) → i < length rs → closing_all (formulas_from bytes from i) (take i rs) w ≡ true
-            → closing (parts_of (formula_at bytes (from + i))) (get_or rs i 0) w ≡ true → closing_all (formulas_from bytes from (i + 1)) (take (i + 1) rs) w ≡ true
+            → closing (parts_of (formula_at bytes (from + i))) (get_or rs i 0) w ≡ true
+            → closing_all (formulas_from bytes from (i + 1)) (take (i + 1) rs) w ≡ true
         close_on i m e f = close_more i m ∙ rw (e, f)
 
         -- One that is not true decides.
@@ -123,7 +124,8 @@ module _ (bytes : List ℕ) where
             last = closing (parts_of (formula_at bytes (from + n))) (get_or rs n 0) w
 
             go : Dec (i < n)
-                → (i < n → closing (parts_of (formula_at bytes (from + i))) (get_or rs i 0) w ≡ false → closing_all (formulas_from bytes from n) (take n rs) w ≡ false)
+                → (i < n → closing (parts_of (formula_at bytes (from + i))) (get_or rs i 0) w ≡ false
+                → closing_all (formulas_from bytes from n) (take n rs) w ≡ false)
                 → closing_all (formulas_from bytes from n) (take n rs) w && last ≡ false
             go (yes a) ih = rw (ih a e)
             go (no a) ih = let q : n ≡ i = omega arith in rw (q, e, and-false)

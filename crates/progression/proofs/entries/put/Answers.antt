@@ -1,0 +1,13 @@
+-- Four words in a row.
+use native.Mathlib.Omega.{arith}
+use lib.ListN.{length-set}
+use Rattle.progression.proofs.entries.put.Goals as goal
+
+pub bounds-work-at-2 : goal.bounds-work-at-2
+bounds-work-at-2 c = simp length-set (omega (arith, c.requires))
+
+pub bounds-work-at-3 : goal.bounds-work-at-3
+bounds-work-at-3 c = simp length-set (omega (arith, c.requires))
+
+pub bounds-work-at-4 : goal.bounds-work-at-4
+bounds-work-at-4 c = simp length-set (omega (arith, c.requires))
