@@ -1,0 +1,13 @@
+-- `choices` goes from the last eight actions to the first: the set is that of the actions after those that are left. At the end the bits of the actions
+-- that may not be used are cleared.
+use mathlib.Core.Path.{◌≡◌}
+use Prim.Native.Nat.{◌-◌, ◌*◌, ◌≤◌}
+use Rattle.model.specs.job.Layout.{job_of}
+use Rattle.nodes.proofs.ChoiceLaws.{set_from}
+use Rattle.nodes.proofs.choices.Given as goal
+
+abbrev pub invariant-loop-left : goal.invariant-loop-left
+invariant-loop-left l = (l.set ≡ set_from (job_of l.job) l.facts (8 * l.left) (8 * (l.initial.left - l.left))) × (l.left ≤ l.initial.left)
+
+abbrev pub decreases-loop-left : goal.decreases-loop-left
+decreases-loop-left l = l.left
