@@ -25,4 +25,7 @@ module _ (bytes : List ℕ) where
         → closing (parts_of (formula_at bytes (1 + (constraint_count bytes + i)))) (get_or rs i 0) (still s) ≡ closed_at (job_of bytes).hints rs s i
     unfolding closed_at job_of
     hint_closed l =
-        rw (get_or-list_of (λ k. formula_at bytes (1 + constraint_count bytes + k)) (hint_count bytes) i (constant True) l, add_assoc 1 (constraint_count bytes) i)
+        rw (
+          get_or-list_of (λ k. formula_at bytes (1 + constraint_count bytes + k)) (hint_count bytes) i (constant True) l,
+          add_assoc 1 (constraint_count bytes) i,
+        )
