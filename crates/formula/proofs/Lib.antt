@@ -1,5 +1,4 @@
 -- What the proofs of the reader use.
-pub mod Codes
 pub mod Reading
 pub mod Counting
 pub mod Places

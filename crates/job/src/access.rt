@@ -1,7 +1,8 @@
 // What stands where in a job. Each function asks only that the bytes that it reads are there.
 ghost use Rattle.std.specs.Prelude.{◌≡◌, ◌+◌, ◌*◌, ◌≤◌, ◌<◌, length};
 ghost use Rattle.model.specs.Bits.{number_at};
-ghost use Rattle.model.specs.job.Layout.{set_bytes, all_sets, action_bytes, fact_count, action_count, constraint_count, hint_count, pair_count, pair_offset, pair_length};
+ghost use Rattle.model.specs.job.Layout.{set_bytes, all_sets, action_bytes, fact_count, action_count, constraint_count, hint_count};
+ghost use Rattle.model.specs.job.Layout.{pair_count, pair_offset, pair_length};
 ghost use Rattle.model.specs.job.Layout.{task_bytes, forbids, set_count, action_offset, set_offset, action_at, job_of};
 ghost use Rattle.job.specs.Laid.{HeadThere, ActionThere};
 

@@ -8,7 +8,7 @@ use native.Mathlib.Omega.{arith}
 use lib.Dec.{eqb}
 use lib.ListN.{length, get_or, drop, drop_of_length-le}
 use lib.Seq.{drop-cons}
-use borrow.Author.Tests.{eq-eqb, ne_eqb, not-true, not-false}
+use borrow.Author.Tests.{eq-eqb, ne_eqb}
 use Rattle.model.specs.logic.Formula.{choose}
 use Rattle.model.specs.exploration.Key.{Key, same_key}
 use Rattle.model.specs.calls.Search.{slot_bytes}
@@ -28,9 +28,9 @@ use Rattle.search.specs.GoalSlots.{slot_cut, any_cut, due, chosen, first_due, Be
 
 module _ (job : List ℕ) (c s : ℕ) (x : Slot) where
   -- A slot that is no goal is not due.
-  pub no_goal_lem : (g : Bool) → g ≡ x.goal → not g ≡ true → false ≡ due job c s x
+  pub no_goal_lem : (g : Bool) → g ≡ x.goal → g ≡ false → false ≡ due job c s x
   unfolding due
-  no_goal_lem g e n = go (same_key (key_of x.cost x.steps) (key_of c s)) (not (slot_cut job x)) (sym e ∙ not-true g n)
+  no_goal_lem g e n = go (same_key (key_of x.cost x.steps) (key_of c s)) (not (slot_cut job x)) (sym e ∙ n)
     where
       go : (a b : Bool) {y : Bool} → y ≡ false → false ≡ (a && b && y)
       go true true h = sym h
@@ -58,10 +58,10 @@ module _ (job : List ℕ) (c s : ℕ) (x : Slot) where
     is_cut = sym (cut ∙ ap (λ (y : Slot). slot_cut job y) loaded)
 
     -- A goal of that cost and number of steps is due unless it is cut.
-    pub is_due_lem : (g : Bool) → g ≡ x.goal → not g ≡ false → not d ≡ due job c s x
+    pub is_due_lem : (g : Bool) → g ≡ x.goal → g ≡ true → not d ≡ due job c s x
     unfolding due same_key
     is_due_lem g e n =
-        rw (eq-eqb x.cost c (sym ev ∙ ec), same_key, eq-eqb x.steps s (sym ew ∙ es), is_cut, sym e ∙ not-false g n) (go d)
+        rw (eq-eqb x.cost c (sym ev ∙ ec), same_key, eq-eqb x.steps s (sym ew ∙ es), is_cut, sym e ∙ n) (go d)
       where
         go : (b : Bool) → not b ≡ (not b && true)
         go true = refl
@@ -81,40 +81,40 @@ module _ (job : List ℕ) (t : List ℕ) (n c s i : ℕ) (f : Found) (y : Bool) 
   Chosen = chosen (held t n) (due job c s (slot_at t i)) i f
 
   -- Where slot i is not due, the choice is what was found.
-  pub chosen_not : not y ≡ true → f ≡ Chosen
+  pub chosen_not : y ≡ false → f ≡ Chosen
   unfolding chosen
   chosen_not h = go f
     where
       e : due job c s (slot_at t i) ≡ false
-      e = sym tested ∙ not-true y h
+      e = sym tested ∙ h
 
       go : (g : Found) → g ≡ chosen (held t n) (due job c s (slot_at t i)) i g
       go Nothing = rw e
       go (At b) = rw e
 
   -- Where slot i alone is due, it is the choice.
-  pub chosen_only : not y ≡ false → f ≡ Nothing → At i ≡ Chosen
+  pub chosen_only : y ≡ true → f ≡ Nothing → At i ≡ Chosen
   unfolding chosen
-  chosen_only h q = rw (q, sym tested ∙ not-false y h)
+  chosen_only h q = rw (q, sym tested ∙ h)
 
   -- Where the other's path comes first by their order o, the other is the choice.
-  pub chosen_behind : (b : ℕ) (o : Bool) → o ≡ order (held t n) b i → not y ≡ false → f ≡ At b → o ≡ true → At b ≡ Chosen
+  pub chosen_behind : (b : ℕ) (o : Bool) → o ≡ order (held t n) b i → y ≡ true → f ≡ At b → o ≡ true → At b ≡ Chosen
   unfolding chosen
-  chosen_behind b o p h q e = rw (q, sym tested ∙ not-false y h, ← p, e)
+  chosen_behind b o p h q e = rw (q, sym tested ∙ h, ← p, e)
 
   -- Where the path of slot i comes first, it is the choice.
-  pub chosen_here : (b : ℕ) (o : Bool) → o ≡ order (held t n) b i → not y ≡ false → f ≡ At b → o ≡ false → At i ≡ Chosen
+  pub chosen_here : (b : ℕ) (o : Bool) → o ≡ order (held t n) b i → y ≡ true → f ≡ At b → o ≡ false → At i ≡ Chosen
   unfolding chosen
-  chosen_here b o p h q e = rw (q, sym tested ∙ not-false y h, ← p, e)
+  chosen_here b o p h q e = rw (q, sym tested ∙ h, ← p, e)
 
 -- What was found after slot i, which is due, can be compared with it.
-pub comparable : (job : List ℕ) (t : List ℕ) (n i b c s : ℕ) (f : Found) (y : Bool) → y ≡ due job c s (slot_at t i) → not y ≡ false → f ≡ At b
+pub comparable : (job : List ℕ) (t : List ℕ) (n i b c s : ℕ) (f : Found) (y : Bool) → y ≡ due job c s (slot_at t i) → y ≡ true → f ≡ At b
     → Behind (held t n) (i + 1) c s f
     → n * slot_bytes ≤ length t → i < n → Level (held t n) n b i
 comparable job t n i b c s f y tested h e behind room g =
     let k : Behind (held t n) (i + 1) c s (At b) = rw e at behind in
     let size = length-first t n room in
-    let steps : steps_at (held t n) i ≡ s = sym (held_steps t n i g) ∙ (due_key job c s (slot_at t i) (sym tested ∙ not-false y h)).1 in
+    let steps : steps_at (held t n) i ≡ s = sym (held_steps t n i g) ∙ (due_key job c s (slot_at t i) (sym tested ∙ h)).1 in
     record { first = omega arith; second = g; differ = λ z. omega arith; level = omega arith }
 
 -- ---- the slots from i on

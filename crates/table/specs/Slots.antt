@@ -47,7 +47,17 @@ slots l = list_of (λ i. slot_of (row l i)) (length l / slot_bytes)
 
 -- what stands for a slot where there is none
 unfoldable pub no_slot : Slot
-no_slot = record { node = replicate node_words 0; hints = replicate 8 0; cost = 0; steps = 0; estimate = 0; parent = 0; action = 0; taken = false; goal = false }
+no_slot = record {
+  node = replicate node_words 0;
+  hints = replicate 8 0;
+  cost = 0;
+  steps = 0;
+  estimate = 0;
+  parent = 0;
+  action = 0;
+  taken = false;
+  goal = false;
+}
 
 -- slot i
 abbrev pub slot_at : List ℕ → ℕ → Slot

@@ -18,9 +18,6 @@ past : (i : ℕ) → most_parts ≤ i → 0 ≡ unknown most_parts i
 unfolding unknown of_bits
 past i h = of_bits_cong 64 (λ k. false) (λ k. bit k i) (λ k l. sym (bit_high most_parts k i l h))
 
-six : (i : ℕ) → (((((Unit {0} × (i ≡ 0 → ⊥)) × (i ≡ 1 → ⊥)) × (i ≡ 2 → ⊥)) × (i ≡ 3 → ⊥)) × (i ≡ 4 → ⊥)) × (i ≡ 5 → ⊥) → most_parts ≤ i
-six i h = omega arith
-
 pub returns-in-0 : goal.returns-in-0
 unfolding unknown
 returns-in-0 c = table 0 0xaaaa_aaaa_aaaa_aaaa refl c.args.i c.in-0.is
@@ -46,4 +43,4 @@ unfolding unknown
 returns-in-5 c = table 5 0xffff_ffff_0000_0000 refl c.args.i c.in-5.is
 
 pub returns-in_default : goal.returns-in_default
-returns-in_default c = past c.args.i (six c.args.i c.in_default.in_default-own.rest)
+returns-in_default c = past c.args.i (omega arith)

@@ -9,8 +9,6 @@ use Rattle.estimate.proofs.EndLaws.{stays_ended, ends_ready, stays_open}
 use Rattle.estimate.proofs.end_of.Goals as goal
 use Rattle.estimate.proofs.end_of.Goals.{Else-end-ne-NEVER}
 
--- ---- the goals
-
 -- The action's bytes are there.
 there : (c : Else-end-ne-NEVER) → ActionThere c.args.job.now c.args.i
 there c = action_there (accepted_laid _ c.requires.0) _ c.requires.1

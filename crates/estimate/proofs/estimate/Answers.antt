@@ -14,8 +14,6 @@ use Rattle.estimate.proofs.LevelLaws.{rising_first, rising_done, rising_ends, ri
 use Rattle.estimate.proofs.estimate.Goals as goal
 use Rattle.estimate.proofs.estimate.Goals.{After-goal-goal}
 
--- ---- the goals
-
 pub goal-goal-requires : goal.goal-goal-requires
 goal-goal-requires c = head_there (accepted_laid _ c.requires)
 

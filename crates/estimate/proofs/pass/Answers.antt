@@ -15,8 +15,6 @@ use Rattle.estimate.proofs.UsableLaws.{passing_usable, passing_barred}
 use Rattle.estimate.proofs.pass.Goals as goal
 use Rattle.estimate.proofs.pass.Goals.{At-loop-i, In-loop-i, then-usable-i-eq1, else-usable-i-eq1}
 
--- ---- the goals
-
 pub action_count-requires : goal.action_count-requires
 action_count-requires c = (accepted_laid _ c.requires.0).head.whole
 
@@ -66,7 +64,8 @@ loop-i-preserved c =
       elim c.if-usable-i-eq1.branch [
         | then-usable-i-eq1 w ↦ passing_usable c.args.usable _ _ _ c.loop-i.invariant.1 known indexed w.if-usable-i-eq1.true w.end_of-end.ensures
             w.sooner-best.ensures w.ends-is w.best-is
-        | else-usable-i-eq1 w ↦ passing_barred c.args.usable _ _ _ c.loop-i.invariant.1 known indexed w.if-usable-i-eq1.false c.ranges.built.fits w.ends-is w.best-is
+        | else-usable-i-eq1 w ↦ passing_barred c.args.usable _ _ _ c.loop-i.invariant.1 known indexed w.if-usable-i-eq1.false c.ranges.built.fits
+            w.ends-is w.best-is
       ],
     )
 

@@ -6,8 +6,6 @@ use Rattle.estimate.proofs.Reading.{told}
 use Rattle.estimate.proofs.GainLaws.{sooner_it, best_useful, best_sooner}
 use Rattle.estimate.proofs.sooner.Goals as goal
 
--- ---- the goals
-
 pub action_add-adds-requires : goal.action_add-adds-requires
 action_add-adds-requires c = action_there (accepted_laid _ c.requires.0) _ c.requires.1
 

@@ -9,8 +9,6 @@ use Rattle.expansion.proofs.Growing.{grew_relaxed, grew_hopeless, grew_new, grew
 use Rattle.expansion.proofs.arrive.Goals as goal
 use Rattle.expansion.proofs.arrive.Goals.{In-Cost}
 
--- ---- the goals
-
 pub relax-requires : goal.relax-requires
 relax-requires c = (
   (c.args.terms.usable, c.args.terms.places, c.requires.0),

@@ -21,8 +21,6 @@ use Rattle.expansion.proofs.Turns.{Going, going_start, going_end, going_next, go
 use Rattle.expansion.proofs.expand.Goals as goal
 use Rattle.expansion.proofs.expand.Goals.{In-loop-a, then-choices-eq1+in-Held, else-choices-eq1}
 
--- ---- the goals
-
 -- An action of the loop is one of the job's.
 below : (c : In-loop-a) → c.loop-a.a < action_count c.args.job.now
 below c = omega (arith, c.action_count-count.ensures)

@@ -16,8 +16,6 @@ use Rattle.expansion.proofs.Growing.{grew_nowhere, grew_self, leads_to}
 use Rattle.expansion.proofs.follow.Goals as goal
 use Rattle.expansion.proofs.follow.Goals.{After-next-to, Start}
 
--- ---- the goals
-
 -- what is asked
 abbrev asked : (s : Start) → Query
 asked s = query s.args.job.now s.args.terms.usable
@@ -34,7 +32,8 @@ next-to-requires c =
     )
 
 -- It leads where it leads in the job.
-leads_on : (c : After-next-to) → Leads (constraint_count c.args.job.now) (next_node (job_for (asked (goal.at.After-next-to c).Start)) (node_for c.args.job.now c.args.from.node) c.args.a) c.next-to.result
+leads_on : (c : After-next-to) → let a = c.args in
+    Leads (constraint_count a.job.now) (next_node (job_for (asked (goal.at.After-next-to c).Start)) (node_for a.job.now a.from.node) a.a) c.next-to.result
 leads_on c =
     let own = own_next (asked (goal.at.After-next-to c).Start) c.args.a c.requires.0.known _ c.requires.1 (node_for c.args.job.now c.args.from.node) in
     subst (λ (to : Option Node). Leads (constraint_count c.args.job.now) to c.next-to.result) (sym own) c.next-to.ensures.0

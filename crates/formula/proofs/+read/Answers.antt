@@ -19,10 +19,10 @@ use Rattle.formula.proofs.Reading.{reading, read_is, read_grows, one_answers, tw
 use Rattle.formula.proofs.+read.Goals as goal
 
 -- the answer at the position, by its code
-told : (v a : ℕ) (s : List ℕ) (under : Bool) (seen : Seen) (at : ℕ) → at < length s → (k : Code) → k ≡ code_of (get_or s at 0)
-    → (part : Bool) → part ≡ under || carries k → (here : Seen) → here ≡ note_if part seen at → (j : Code) → k ≡ j
+told : (v a : ℕ) (s : List ℕ) (under : Bool) (seen : Seen) {at : ℕ} {k : Code} {part : Bool} {here : Seen}
+    → at < length s → k ≡ code_of (get_or s at 0) → part ≡ under || carries k → here ≡ note_if part seen at → (j : Code) → k ≡ j
     → extent under seen at (parsed v a s at) ≡ reading j (λ u x m. extent u x m (parsed v a s m)) v a s here at
-told v a s under seen at h k e part f here g j i =
+told v a s under seen {at} {k} {part} {here} h e f g j i =
     let rest : Bool → Seen → ℕ → Extent = λ u x m. extent u x m (parsed v a s m) in
     read_is v a s under seen at k h e
     ∙ ap (λ (x : Seen). reading k rest v a s x at) (sym (g ∙ ap (λ (b : Bool). note_if b seen at) f))
@@ -44,22 +44,27 @@ read-requires-in-Whole t c =
 
 pub returns-in-Leaf : goal.returns-in-Leaf
 unfolding reading
-returns-in-Leaf t c = sym (told _ _ _ _ _ _ c.if-s-at.false _ c.code_of-code.ensures _ c.is_part.ensures _ c.seen_here-here.ensures (Leaf c.in-Leaf.field-0) c.in-Leaf.is)
+returns-in-Leaf t c =
+    sym (told _ _ _ _ _ c.if-s-at.false c.code_of-code.ensures c.is_part.ensures c.seen_here-here.ensures (Leaf c.in-Leaf.field-0) c.in-Leaf.is)
 
 pub returns-in-Fact : goal.returns-in-Fact
 unfolding reading
-returns-in-Fact t c = c.number.ensures ∙ sym (told _ _ _ _ _ _ c.if-s-at.false _ c.code_of-code.ensures _ c.is_part.ensures _ c.seen_here-here.ensures Fact c.in-Fact.is)
+returns-in-Fact t c =
+    c.number.ensures
+    ∙ sym (told _ _ _ _ _ c.if-s-at.false c.code_of-code.ensures c.is_part.ensures c.seen_here-here.ensures Fact c.in-Fact.is)
 
 pub returns-in-Action : goal.returns-in-Action
 unfolding reading
-returns-in-Action t c = c.number-in-Action.ensures ∙ sym (told _ _ _ _ _ _ c.if-s-at.false _ c.code_of-code.ensures _ c.is_part.ensures _ c.seen_here-here.ensures Action c.in-Action.is)
+returns-in-Action t c =
+    c.number-in-Action.ensures
+    ∙ sym (told _ _ _ _ _ c.if-s-at.false c.code_of-code.ensures c.is_part.ensures c.seen_here-here.ensures Action c.in-Action.is)
 
 pub returns-in-One : goal.returns-in-One
 returns-in-One t c =
     let a = c.args in
     let o : Unary = c.in-One.o in
     one_answers (λ u x m. extent u x m (parsed a.facts a.actions a.s.now m)) a.facts a.actions a.s.now c.seen_here-here.result a.at _ o
-    (told _ _ _ _ _ _ c.if-s-at.false _ c.code_of-code.ensures _ c.is_part.ensures _ c.seen_here-here.ensures (One o) c.in-One.is)
+    (told _ _ _ _ _ c.if-s-at.false c.code_of-code.ensures c.is_part.ensures c.seen_here-here.ensures (One o) c.in-One.is)
     c.is_next.result c.is_next.ensures c.read.result c.read.ensures
 
 pub returns-in-Whole : goal.returns-in-Whole
@@ -67,7 +72,7 @@ returns-in-Whole t c =
     let a = c.args in
     let o : Binary = c.in-Two.field-0 in
     two_answers (λ u x m. extent u x m (parsed a.facts a.actions a.s.now m)) a.facts a.actions a.s.now c.seen_here-here.result a.at _ o
-    (told _ _ _ _ _ _ c.if-s-at.false _ c.code_of-code.ensures _ c.is_part.ensures _ c.seen_here-here.ensures (Two o) c.in-Two.is)
+    (told _ _ _ _ _ c.if-s-at.false c.code_of-code.ensures c.is_part.ensures c.seen_here-here.ensures (Two o) c.in-Two.is)
     c.read-in-Two.result c.read-in-Two.ensures _ _ c.in-Whole.is c.read-in-Whole.result c.read-in-Whole.ensures
 
 pub returns-in-Wrong : goal.returns-in-Wrong
@@ -75,9 +80,9 @@ returns-in-Wrong t c =
     let a = c.args in
     let o : Binary = c.in-Two.field-0 in
     two_wrong (λ u x m. extent u x m (parsed a.facts a.actions a.s.now m)) a.facts a.actions a.s.now c.seen_here-here.result a.at _ o
-    (told _ _ _ _ _ _ c.if-s-at.false _ c.code_of-code.ensures _ c.is_part.ensures _ c.seen_here-here.ensures (Two o) c.in-Two.is)
+    (told _ _ _ _ _ c.if-s-at.false c.code_of-code.ensures c.is_part.ensures c.seen_here-here.ensures (Two o) c.in-Two.is)
     c.read-in-Two.result c.read-in-Two.ensures _ c.in-Wrong.is
 
 pub returns-in-Unknown : goal.returns-in-Unknown
 unfolding reading
-returns-in-Unknown t c = sym (told _ _ _ _ _ _ c.if-s-at.false _ c.code_of-code.ensures _ c.is_part.ensures _ c.seen_here-here.ensures Unknown c.in-Unknown.is)
+returns-in-Unknown t c = sym (told _ _ _ _ _ c.if-s-at.false c.code_of-code.ensures c.is_part.ensures c.seen_here-here.ensures Unknown c.in-Unknown.is)

@@ -3,7 +3,8 @@ use mathlib.Core.Path.{◌≡◌, refl, sym, ap, ◌∙◌}
 use Prim.Native.Nat.{ℕ}
 use Rattle.model.specs.logic.Formula.{code_of}
 use Rattle.model.specs.declared.Code.{Code}
-use Rattle.formula.proofs.Codes.{unknown_code}
+use borrow.Author.Tests.{ne_eqb}
+use native.Mathlib.Omega.{arith}
 use Rattle.formula.proofs.code_of.Goals as goal
 
 -- the code of a byte that is known
@@ -49,5 +50,23 @@ returns-in-35 c = unfold code_of in code_at 0x23 refl c.in-35.is
 pub returns-in-36 : goal.returns-in-36
 returns-in-36 c = unfold code_of in code_at 0x24 refl c.in-36.is
 
+-- a byte that is none of the codes is unknown
 pub returns-in_default : goal.returns-in_default
-returns-in_default c = sym (unknown_code c.args.byte c.in_default.in_default-own.rest)
+unfolding code_of
+returns-in_default c =
+    let b = c.args.byte in
+    sym (simp (
+      ne_eqb b 0x00 (omega arith),
+      ne_eqb b 0x01 (omega arith),
+      ne_eqb b 0x02 (omega arith),
+      ne_eqb b 0x03 (omega arith),
+      ne_eqb b 0x04 (omega arith),
+      ne_eqb b 0x10 (omega arith),
+      ne_eqb b 0x11 (omega arith),
+      ne_eqb b 0x12 (omega arith),
+      ne_eqb b 0x20 (omega arith),
+      ne_eqb b 0x21 (omega arith),
+      ne_eqb b 0x22 (omega arith),
+      ne_eqb b 0x23 (omega arith),
+      ne_eqb b 0x24 (omega arith),
+    ))

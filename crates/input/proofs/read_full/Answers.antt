@@ -1,5 +1,6 @@
 -- What a read puts after the bytes that stand there already is what the input loses next.
-use Rattle.std.proofs.Common.{rules, ◌≡◌, ℕ, ◌+◌, ◌-◌, ◌≤◌, List, ◌++◌, arith, length, take, slice_range, sym, ap, ◌∙◌, subst, le_refl, drop_at, length-take-le}
+use Rattle.std.proofs.Common.{rules, ◌≡◌, ℕ, ◌+◌, ◌-◌, ◌≤◌, List, ◌++◌, arith, length, take, slice_range}
+use Rattle.std.proofs.Common.{sym, ap, ◌∙◌, subst, le_refl, drop_at, length-take-le}
 use Rattle.std.proofs.lemmas.Slice.{take-put_mid_below}
 use Rattle.std.specs.Io.KnownBytes.{Consumes}
 use Rattle.std.proofs.KnownBytes.{Consumes-trans}
@@ -18,7 +19,8 @@ range-put-mid : (a k n : ℕ) (xs ys : List ℕ) → a ≤ length xs → n ≤ l
 range-put-mid a k n xs ys within fits =
     let same : (a + n) - a ≡ n = omega arith in
     let after = post_of a k xs in
-    ap (take ((a + n) - a)) (drop_at (take a xs) (ys ++ after) a (length-take-le a xs within)) ∙ ap (λ m. take m (ys ++ after)) same ∙ take-append-le n ys after fits
+    ap (take ((a + n) - a)) (drop_at (take a xs) (ys ++ after) a (length-take-le a xs within))
+    ∙ ap (λ m. take m (ys ++ after)) same ∙ take-append-le n ys after fits
 
 pub loop-at-preserved : goal.loop-at-preserved
 loop-at-preserved g c =
@@ -26,7 +28,8 @@ loop-at-preserved g c =
     let room = length c.loop-at.buffer - from in
     let within = c.loop-at.invariant.0 in
     let part = range-put-mid from room c.in_ok-n.n c.loop-at.buffer c.read.new.buf within c.in_ok-n.ensures.bound.0 in
-    let joined = take-split from (from + c.in_ok-n.n) c.loop-at.buffer (put_mid from room c.loop-at.buffer c.read.new.buf) (omega arith) (take-put_mid_below _ _ _ _ _ (le_refl _) within) in (
+    let filled = put_mid from room c.loop-at.buffer c.read.new.buf in
+    let joined = take-split from (from + c.in_ok-n.n) c.loop-at.buffer filled (omega arith) (take-put_mid_below _ _ _ _ _ (le_refl _) within) in (
       search rules,
       subst (Consumes _ _) (ap (λ l. take from c.loop-at.buffer ++ l) (sym part) ∙ joined)
           (Consumes-trans _ _ _ _ _ c.loop-at.invariant.1 c.in_ok-n.ensures.bytes.0),

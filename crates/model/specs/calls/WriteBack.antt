@@ -25,7 +25,8 @@ write_end r out = record { result = r; buffer = out }
 unfoldable pub rule_verdict : ℕ → ℕ → List ℕ → Verdict
 unfolding or_else unless counts_in_range formula_verdict section
 rule_verdict v a rule =
-    or_else (unless (counts_in_range v a) 1 0) (or_else (unless (leb 1 (length rule) && leb (length rule) most_bytes) 2 0) (formula_verdict 0 (section v a rule)))
+    or_else (unless (counts_in_range v a) 1 0)
+    (or_else (unless (leb 1 (length rule) && leb (length rule) most_bytes) 2 0) (formula_verdict 0 (section v a rule)))
 
 -- the bytes of the positive normal form of what a rule holds
 unfoldable pub rewritten : Parsed → List ℕ

@@ -67,7 +67,8 @@ module _ (bytes : List ℕ) where
 
   unfoldable pub task_verdict : Verdict
   unfolding in_turn or_else set_verdict action_verdict pair_offset action_count
-  task_verdict = or_else (set_verdict (pair_offset bytes 0)) (or_else (set_verdict (pair_offset bytes 0 + set_bytes)) (in_turn (action_count bytes) action_verdict))
+  task_verdict =
+      or_else (set_verdict (pair_offset bytes 0)) (or_else (set_verdict (pair_offset bytes 0 + set_bytes)) (in_turn (action_count bytes) action_verdict))
 
   -- "each rule, then hint"
   unfoldable pub formulas_verdict : Verdict

@@ -7,8 +7,6 @@ use Rattle.nodes.proofs.Fields.{action_read}
 use Rattle.nodes.proofs.action_of.Goals as goal
 use Rattle.nodes.proofs.action_of.Goals.{After-wide-k}
 
--- ---- the goals
-
 -- The action's bytes are there.
 there : (c : After-wide-k) → ActionThere c.args.job.now c.wide-k.result
 there c = action_there (accepted_laid _ c.requires.0) _ (omega arith)

@@ -6,8 +6,6 @@ use Rattle.job.proofs.Accepted.{accepted_laid}
 use Rattle.nodes.proofs.ChoiceLaws.{action_none}
 use Rattle.nodes.proofs.action_or_none.Goals as goal
 
--- ---- the goals
-
 pub action_count-requires : goal.action_count-requires
 action_count-requires c = (accepted_laid _ c.requires).head.whole
 

@@ -12,8 +12,6 @@ use Rattle.nodes.proofs.ChoiceLaws.{set_from, set_of, set_none, set_lt, set_eigh
 use Rattle.nodes.proofs.choices.Goals as goal
 use Rattle.nodes.proofs.choices.Goals.{After-action_count, After-applicable_set, In-loop-left}
 
--- ---- the goals
-
 few : (c : After-action_count) → c.action_count.result ≤ 64
 few c = omega (arith, (accepted_laid _ c.requires).head.few_actions, c.action_count.ensures)
 

@@ -3,8 +3,6 @@ use Rattle.model.specs.job.Layout.{job_of}
 use Rattle.nodes.proofs.ChoiceLaws.{eight}
 use Rattle.nodes.proofs.eight_from.Goals as goal
 
--- ---- the goals
-
 pub returns : goal.returns
 returns c =
     eight (job_of c.args.job.now) c.args.first c.action_or_none.ensures c.action_or_none-2.ensures

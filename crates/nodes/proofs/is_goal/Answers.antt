@@ -6,8 +6,6 @@ use Rattle.job.proofs.Accepted.{accepted_laid}
 use Rattle.nodes.proofs.Arrivals.{goal_not, goal_closing}
 use Rattle.nodes.proofs.is_goal.Goals as goal
 
--- ---- the goals
-
 pub goal-requires : goal.goal-requires
 goal-requires c = head_there (accepted_laid _ c.requires.0)
 

@@ -7,8 +7,6 @@ use Rattle.job.proofs.Accepted.{accepted_laid}
 use Rattle.nodes.proofs.Arrivals.{next_alone, next_leads}
 use Rattle.nodes.proofs.next.Goals as goal
 
--- ---- the goals
-
 pub constraint_count-requires : goal.constraint_count-requires
 constraint_count-requires c = (accepted_laid _ c.requires.0).head.whole
 

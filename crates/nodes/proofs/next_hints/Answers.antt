@@ -6,8 +6,6 @@ use Rattle.job.proofs.Accepted.{accepted_laid}
 use Rattle.nodes.proofs.Hints.{carried}
 use Rattle.nodes.proofs.next_hints.Goals as goal
 
--- ---- the goals
-
 pub hints_next-requires : goal.hints_next-requires
 hints_next-requires c = let l = accepted_laid _ c.requires.0 in (c.requires.0, omega arith, c.requires.2)
 

@@ -4,8 +4,6 @@ use Rattle.search.specs.Given.{runs_out}
 use Rattle.planner.proofs.NumberLaws.{answers}
 use Rattle.planner.proofs.dagzhimo_search.Goals as goal
 
--- ---- the goals
-
 pub returns : goal.returns
 returns c =
     let s = c.args in

@@ -2,8 +2,6 @@
 use Rattle.planner.proofs.NumberLaws.{passed, refused}
 use Rattle.planner.proofs.dagzhimo_validate.Goals as goal
 
--- ---- the goals
-
 pub returns-in-Passed : goal.returns-in-Passed
 returns-in-Passed c = passed _ _ _ _ _ c.validate.ensures c.in-Passed.is c.wide.ensures.0
 

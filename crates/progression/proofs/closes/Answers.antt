@@ -7,8 +7,6 @@ use Rattle.model.specs.job.Layout.{pair_count}
 use Rattle.progression.proofs.Lent.{settled_closed}
 use Rattle.progression.proofs.closes.Goals as goal
 
--- ---- the goals
-
 pub returns-then-is_settled : goal.returns-then-is_settled
 unfolding pair_count dead
 returns-then-is_settled c = sym (settled_closed _ c.requires.0 _ (omega arith) (omega arith) _ _ (sym c.is_settled.ensures ∙ c.if-is_settled.true))

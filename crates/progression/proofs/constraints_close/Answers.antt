@@ -10,8 +10,6 @@ use Rattle.progression.specs.Padded.{formulas_from}
 use Rattle.progression.proofs.Rows.{constraints_from, close_on, close_not}
 use Rattle.progression.proofs.constraints_close.Goals as goal
 
--- ---- the goals
-
 pub constraint_count-requires : goal.constraint_count-requires
 constraint_count-requires c = (accepted_laid _ c.requires.0).head.whole
 

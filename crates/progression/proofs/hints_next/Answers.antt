@@ -6,8 +6,6 @@ use Rattle.model.specs.job.Layout.{constraint_count, hint_count, pair_count}
 use Rattle.progression.proofs.Rows.{hints_from, nothing_next}
 use Rattle.progression.proofs.hints_next.Goals as goal
 
--- ---- the goals
-
 pub constraint_count-requires : goal.constraint_count-requires
 constraint_count-requires c = (accepted_laid _ c.requires.0).head.whole
 

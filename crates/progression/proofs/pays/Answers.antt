@@ -13,8 +13,6 @@ use Rattle.model.specs.job.Layout.{pair_count, pair_offset, pair_length}
 use Rattle.progression.specs.Workspace.{formula_bytes, pays}
 use Rattle.progression.proofs.pays.Goals as goal
 
--- ---- the goals
-
 pub section_offset-requires : goal.section_offset-requires
 unfolding pair_count
 section_offset-requires c = (accepted_laid _ c.requires).pair 0 (omega arith)

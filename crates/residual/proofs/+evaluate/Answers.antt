@@ -28,7 +28,8 @@ record Found (s : List ℕ) (at : ℕ) (under : Bool) (n : ℕ) (k : Code) : Typ
   room : after (carries k) (starts under (carries k) n) ≤ most_parts
   first : n ≤ most_parts
 
-found : (s : List ℕ) (at : ℕ) (under : Bool) (n : ℕ) → Few (parsed 64 64 s at) under n → (k : Code) → k ≡ code_of (get_or s at 0) → Found s at under n k
+found : (s : List ℕ) (at : ℕ) (under : Bool) (n : ℕ) → Few (parsed 64 64 s at) under n
+    → (k : Code) → k ≡ code_of (get_or s at 0) → Found s at under n k
 found s at under n h k e =
     let i : parsed 64 64 s at ≡ operands 64 64 s k (parsed 64 64 s) at = by_code 64 64 s at k (few_inside 64 64 s under n at h) (sym e) in
     let f : Few (operands 64 64 s k (parsed 64 64 s) at) under n = rw i at h in
@@ -53,7 +54,8 @@ fact_number : (s : List ℕ) (at : ℕ) (under : Bool) (n : ℕ) → Few (parsed
 unfolding operands
 fact_number s at under n h e = let d = found s at under n h Fact e in number s at under n fact d.is d.few
 
-action_number : (s : List ℕ) (at : ℕ) (under : Bool) (n : ℕ) → Few (parsed 64 64 s at) under n → Action ≡ code_of (get_or s at 0) → Number s at action
+action_number : (s : List ℕ) (at : ℕ) (under : Bool) (n : ℕ) → Few (parsed 64 64 s at) under n
+    → Action ≡ code_of (get_or s at 0) → Number s at action
 unfolding operands
 action_number s at under n h e = let d = found s at under n h Action e in number s at under n action d.is d.few
 

@@ -15,7 +15,8 @@ until_bits p q r hp hq =
     (λ k h. bit_or_lem q (bit_and p r) k ∙ ap (λ (b : Bool). bit q k || b) (bit_and_lem p r k))
 
 release_bits : (p q r : ℕ) → p < 2 ^ 64 → q < 2 ^ 64 → bit_and q (bit_or p r) ≡ of_bits 64 (λ k. bit q k && (bit p k || bit r k))
-release_bits p q r hp hq = by_bits _ _ (and_lt 64 q (bit_or p r) hq) (λ k h. bit_and_lem q (bit_or p r) k ∙ ap (λ (b : Bool). bit q k && b) (bit_or_lem p r k))
+release_bits p q r hp hq = by_bits _ _ (and_lt 64 q (bit_or p r) hq)
+    (λ k h. bit_and_lem q (bit_or p r) k ∙ ap (λ (b : Bool). bit q k && b) (bit_or_lem p r k))
 
 pub returns-in-And : goal.returns-in-And
 unfolding table2

@@ -9,8 +9,6 @@ use Rattle.rights.proofs.AcceptedCalls.{list_checked, list_few, job_refused, lis
 use Rattle.rights.proofs.accept.Goals as goal
 use Rattle.rights.proofs.accept.Goals.{After-decode-verdict, After-unless-listed, In_default, In_default-listed}
 
--- ---- the goals
-
 -- the call that is checked
 abbrev called : After-decode-verdict → Call
 called c = call c.args.job.now c.args.needs.now c.args.rights

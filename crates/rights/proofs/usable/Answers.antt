@@ -4,8 +4,6 @@ use native.Mathlib.Omega.{arith}
 use Rattle.rights.proofs.StepBits.{bits_none, bits_all, bits_room, bits_more}
 use Rattle.rights.proofs.usable.Goals as goal
 
--- ---- the goals
-
 pub loop-i-init : goal.loop-i-init
 loop-i-init c = (omega arith, bits_none c.args.needs.now c.args.rights)
 

@@ -2,26 +2,17 @@
 use mathlib.Core.Path.{refl, sym}
 use native.Mathlib.Omega.{arith}
 use lib.Seq.{length-take-le}
-use Rattle.model.specs.calls.Call.{Call, call}
+use Rattle.model.specs.calls.Call.{call}
 use Rattle.search.proofs.PartLaws.{told_fit, part_given}
 use Rattle.search.proofs.planned.Goals as goal
-use Rattle.search.proofs.planned.Goals.{After-plan-2-1}
-
--- ---- places
-
--- the call
-abbrev called : After-plan-2-1 → Call
-called c = let s = c.args in call s.job.now s.needs.now s.rights
-
--- ---- the goals
 
 pub slice_bounds-result-end : goal.slice_bounds-result-end
 slice_bounds-result-end c =
     let s = c.args in
-    sym (length-take-le _ c.search.new.plan
-    (omega (arith, told_fit (called c) s.table.now s.plan.now c.search.ensures c.numbers-told.ensures)))
+    let fits = told_fit (call s.job.now s.needs.now s.rights) s.table.now s.plan.now c.search.ensures c.numbers-told.ensures in
+    sym (length-take-le _ c.search.new.plan (omega (arith, fits)))
 
 pub returns : goal.returns
 returns c =
     let s = c.args in
-    (part_given (called c) s.table.now s.plan.now c.search.ensures c.numbers-told.ensures, refl)
+    (part_given (call s.job.now s.needs.now s.rights) s.table.now s.plan.now c.search.ensures c.numbers-told.ensures, refl)

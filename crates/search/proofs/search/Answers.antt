@@ -13,8 +13,6 @@ use Rattle.search.proofs.GivenLaws.{bad_ends, fine_ends}
 use Rattle.search.proofs.search.Goals as goal
 use Rattle.search.proofs.search.Goals.{After-accept, In-Usable}
 
--- ---- the goals
-
 -- the call
 abbrev called : After-accept → Call
 called c = let s = c.args in call s.job.now s.needs.now s.rights

@@ -5,8 +5,6 @@ use Rattle.held.proofs.JobLaws.{few_actions}
 use Rattle.expansion.proofs.Making.{opened_makes}
 use Rattle.expansion.proofs.made.fresh.Goals as goal
 
--- ---- the goals
-
 pub returns : goal.returns
 returns c = (
   opened_makes c.args.job.now _ _ _ _ _ _ _ c.opened.ensures c.key_of-key.ensures c.hints_of-hints.ensures.0

@@ -2,8 +2,6 @@
 use Rattle.expansion.proofs.Merging.{merged_new, merged_old}
 use Rattle.expansion.proofs.made.merged.Goals as goal
 
--- ---- the goals
-
 pub hints_of-requires : goal.hints_of-requires
 hints_of-requires c = (c.requires.0, c.requires.2)
 

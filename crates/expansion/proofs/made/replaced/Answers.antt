@@ -5,8 +5,6 @@ use Rattle.held.proofs.JobLaws.{few_actions}
 use Rattle.expansion.proofs.Making.{opened_makes}
 use Rattle.expansion.proofs.made.replaced.Goals as goal
 
--- ---- the goals
-
 pub returns : goal.returns
 returns c = (
   opened_makes c.args.job.now _ _ _ _ _ _ _ c.opened.ensures c.requires.2 c.hints_of-hints.ensures.0 c.requires.3.clean

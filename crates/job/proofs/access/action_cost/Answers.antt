@@ -4,10 +4,6 @@ use Rattle.model.specs.job.Layout.{cost_offset, action_at}
 use Rattle.job.proofs.Bounds.{cost_inside}
 use Rattle.job.proofs.access.action_cost.Goals as goal
 
--- ---- places
-
--- ---- the goals
-
 pub set_offset-requires : goal.set_offset-requires
 set_offset-requires c = (c.requires, omega (arith, c.set_count.ensures.0))
 

@@ -7,10 +7,6 @@ use Rattle.model.proofs.job.Forms.{sets-forbidding, forbidden_some, forbidden_no
 use Rattle.job.proofs.access.action_forbidden.Goals as goal
 use Rattle.job.proofs.access.action_forbidden.Goals.{Else-forbids, Then-forbids}
 
--- ---- places
-
--- ---- the goals
-
 some : (c : Then-forbids) → forbids c.args.bytes.now ≡ true
 some c = sym c.forbids.ensures ∙ c.if-forbids.true
 

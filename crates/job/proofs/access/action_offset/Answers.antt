@@ -7,10 +7,6 @@ use Rattle.job.proofs.Counts.{before_counted, offset_counted}
 use Rattle.job.proofs.access.action_offset.Goals as goal
 use Rattle.job.proofs.access.action_offset.Goals.{After-action_bytes}
 
--- ---- places
-
--- ---- the goals
-
 -- The bytes of the actions before.
 before : (c : After-action_bytes)
     → (let a = c.args in c.action_bytes.result * a.i ≡ action_bytes (set_count a.bytes.now) * a.i)

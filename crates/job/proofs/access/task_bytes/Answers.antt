@@ -7,10 +7,6 @@ use Rattle.job.proofs.Counts.{task_counted}
 use Rattle.job.proofs.access.task_bytes.Goals as goal
 use Rattle.job.proofs.access.task_bytes.Goals.{After-wide}
 
--- ---- places
-
--- ---- the goals
-
 -- Actions of all sets have the most bytes.
 most : (c : After-wide) → c.action_bytes.result * c.wide.result ≤ action_bytes all_sets * c.wide.result
 most c = mul-le-mul_right c.wide.result c.action_bytes.ensures.1

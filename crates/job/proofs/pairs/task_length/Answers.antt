@@ -2,10 +2,6 @@
 use Rattle.job.proofs.PairLaws.{length-plain, length-all}
 use Rattle.job.proofs.pairs.task_length.Goals as goal
 
--- ---- places
-
--- ---- the goals
-
 pub returns-then-n-task_bytes : goal.returns-then-n-task_bytes
 returns-then-n-task_bytes c = length-plain _ _ c.task_bytes.ensures c.if-n-task_bytes.true
 

@@ -8,8 +8,6 @@ use Rattle.job.proofs.task.check_action.Invariants.{set_checked}
 use Rattle.job.proofs.task.check_action.Goals as goal
 use Rattle.job.proofs.task.check_action.Goals.{After-check_set-verdict, At-loop-k}
 
--- ---- the goals
-
 pub set_count-n-requires : goal.set_count-n-requires
 set_count-n-requires c = task_pair c.requires.0
 

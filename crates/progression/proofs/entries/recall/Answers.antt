@@ -4,8 +4,6 @@ use Prim.Native.Nat.{◌+◌}
 use Rattle.progression.proofs.EntryLaws.{recalled_at}
 use Rattle.progression.proofs.entries.recall.Goals as goal
 
--- ---- the goals
-
 pub returns-then-is_entry : goal.returns-then-is_entry
 returns-then-is_entry c =
     let a = c.args in

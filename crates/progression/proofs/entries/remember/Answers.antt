@@ -6,8 +6,6 @@ use Rattle.progression.specs.Workspace.{written, Remembers}
 use Rattle.progression.proofs.EntryLaws.{remembered}
 use Rattle.progression.proofs.entries.remember.Goals as goal
 
--- ---- the goals
-
 pub returns : goal.returns
 returns c =
     let a = c.args in

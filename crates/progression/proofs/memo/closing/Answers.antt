@@ -6,8 +6,6 @@ use Rattle.progression.proofs.Lent.{settled_closed, few_sections}
 use Rattle.progression.proofs.MemoLaws.{found_closing, kept_closing}
 use Rattle.progression.proofs.memo.closing.Goals as goal
 
--- ---- the goals
-
 pub returns-then-is_settled : goal.returns-then-is_settled
 unfolding dead
 returns-then-is_settled c =

@@ -4,8 +4,6 @@ use mathlib.Core.Bool.{Bool}
 use Rattle.model.specs.logic.Formula.{choose}
 use Rattle.progression.proofs.memo.named_action.Goals as goal
 
--- ---- the goals
-
 pub returns-then-bit_at : goal.returns-then-bit_at
 returns-then-bit_at c = sym (ap (λ (b : Bool). choose b c.args.action 255) (sym c.bit_at.ensures ∙ c.if-bit_at.true))
 

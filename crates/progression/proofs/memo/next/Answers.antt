@@ -5,10 +5,9 @@ use Rattle.progression.proofs.Lent.{settled_left, few_sections}
 use Rattle.progression.proofs.MemoLaws.{found_next, kept_next}
 use Rattle.progression.proofs.memo.next.Goals as goal
 
--- ---- the goals
-
 pub returns-then-is_settled : goal.returns-then-is_settled
-returns-then-is_settled c = (sym (settled_left _ c.requires.0 _ c.requires.1 c.requires.2 _ _ (sym c.is_settled.ensures ∙ c.if-is_settled.true)), c.requires.4)
+returns-then-is_settled c =
+    (sym (settled_left _ c.requires.0 _ c.requires.1 c.requires.2 _ _ (sym c.is_settled.ensures ∙ c.if-is_settled.true)), c.requires.4)
 
 pub named_action-made-requires : goal.named_action-made-requires
 named_action-made-requires c = (omega arith, c.requires.1, omega (arith, few_sections _ c.requires.0), c.requires.3)

@@ -7,8 +7,6 @@ use Rattle.progression.proofs.Lent.{few_sections}
 use Rattle.progression.proofs.Preparing.{small_workspace, begun_none, begun_more, begun_workspace}
 use Rattle.progression.proofs.memo.prepare.Goals as goal
 
--- ---- the goals
-
 pub returns-then-work-lt-LEAST : goal.returns-then-work-lt-LEAST
 returns-then-work-lt-LEAST c = small_workspace c.args.work.now (omega arith)
 

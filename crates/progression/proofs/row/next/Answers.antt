@@ -11,8 +11,6 @@ use Rattle.progression.proofs.Padding.{padded_none}
 use Rattle.progression.proofs.Rows.{next_more}
 use Rattle.progression.proofs.row.next.Goals as goal
 
--- ---- the goals
-
 pub loop-i-init : goal.loop-i-init
 unfolding formulas_from list_of progressed_all
 loop-i-init c = (omega arith, refl, c.requires.5, padded_none)

@@ -4,8 +4,6 @@ use Rattle.job.proofs.Accepted.{accepted_laid}
 use Rattle.progression.proofs.Lent.{lent_named}
 use Rattle.progression.proofs.section.names.Goals as goal
 
--- ---- the goals
-
 pub section_offset-start-requires : goal.section_offset-start-requires
 section_offset-start-requires c = (accepted_laid _ c.requires.0).pair _ c.requires.2
 

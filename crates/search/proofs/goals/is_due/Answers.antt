@@ -4,12 +4,10 @@ use Rattle.search.specs.GoalSlots.{slot_cut}
 use Rattle.search.proofs.GoalLaws.{no_goal_lem, other_cost, other_steps, is_due_lem}
 use Rattle.search.proofs.goals.is_due.Goals as goal
 
--- ---- the goals
-
 pub returns-then-not-is_goal : goal.returns-then-not-is_goal
 returns-then-not-is_goal c =
     let s = c.args in
-    no_goal_lem s.job.now s.cost s.steps _ _ c.is_goal.ensures c.if-not-is_goal.true-raw
+    no_goal_lem s.job.now s.cost s.steps _ _ c.is_goal.ensures c.if-not-is_goal.true
 
 pub returns-then-cost : goal.returns-then-cost
 returns-then-cost c =
@@ -26,4 +24,4 @@ unfolding slot_cut
 returns c =
     let s = c.args in
     is_due_lem s.job.now s.cost s.steps (slot_at s.t.now s.i) _ _ c.cost.ensures.0 c.steps.ensures.0 c.if-cost.false
-    c.if-steps.false _ c.load.ensures.0 _ c.is_cut.ensures _ c.is_goal.ensures c.if-not-is_goal.false-raw
+    c.if-steps.false _ c.load.ensures.0 _ c.is_cut.ensures _ c.is_goal.ensures c.if-not-is_goal.false

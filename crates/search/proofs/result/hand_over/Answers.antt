@@ -9,7 +9,7 @@ use Rattle.search.proofs.result.hand_over.Goals as goal
 use Rattle.search.proofs.result.hand_over.Goals.{After-steps-steps}
 
 -- The path has as many actions as slot g has steps.
-size : (c : After-steps-steps) → length (slot_path (held c.args.t.now c.args.n) (steps_at (held c.args.t.now c.args.n) c.args.g) c.args.g) ≡ c.steps-steps.result
+size : (c : After-steps-steps) → let h = held c.args.t.now c.args.n in length (slot_path h (steps_at h c.args.g) c.args.g) ≡ c.steps-steps.result
 size c = length-path (held c.args.t.now c.args.n) _ _ ∙ sym (c.steps-steps.ensures.0 ∙ held_steps c.args.t.now c.args.n c.args.g c.requires.2)
 
 pub returns-then-plan-steps : goal.returns-then-plan-steps

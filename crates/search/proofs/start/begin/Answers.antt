@@ -2,8 +2,6 @@
 use Rattle.search.proofs.StartLaws.{begun}
 use Rattle.search.proofs.start.begin.Goals as goal
 
--- ---- the goals
-
 pub returns : goal.returns
 returns c = (
   begun c.args.job.now c.args.t.now c.store.new.t c.args.node _ _ _ c.requires.1 c.requires.2 c.start_hints-hints.ensures

@@ -3,8 +3,6 @@ use native.Mathlib.Omega.{arith}
 use Rattle.search.proofs.StartLaws.{begun_idle, begun_ends}
 use Rattle.search.proofs.start.from_start.Goals as goal
 
--- ---- the goals
-
 pub begin-requires : goal.begin-requires
 begin-requires c =
     (c.requires.0.accepted, c.requires.0.clean, c.requires.0.estimated.fits, omega (arith, c.requires.0.some_place, c.requires.0.room), c.requires.1)

@@ -4,8 +4,6 @@ use mathlib.Core.Path.{refl}
 use Rattle.progression.proofs.Preparing.{small_workspace}
 use Rattle.search.proofs.start.in_workspace.Goals as goal
 
--- ---- the goals
-
 pub pays-requires : goal.pays-requires
 pays-requires c = c.requires.accepted
 

@@ -21,8 +21,6 @@ use Rattle.search.proofs.StartLaws.{search_none, search_small}
 use Rattle.search.proofs.start.searched.Goals as goal
 use Rattle.search.proofs.start.searched.Goals.{Else-not-first, In-Cost}
 
--- ---- the goals
-
 -- no constraint is dead at the start node
 starts : (c : Else-not-first) → let s = c.args in
     start_node (job_for (query s.job.now s.usable)) ≡ some (node_is (constraint_count s.job.now) c.start-first.result.node)

@@ -10,8 +10,6 @@ use Rattle.search.proofs.TurnLaws.{turn_idle, turn_again, turn_ends, turns_over}
 use Rattle.search.proofs.turns.run.Invariants.{asked}
 use Rattle.search.proofs.turns.run.Goals as goal
 
--- ---- the goals
-
 pub loop-left-init : goal.loop-left-init
 loop-left-init c = (
   c.requires.0,

@@ -4,8 +4,6 @@ use native.Mathlib.Omega.{arith}
 use Rattle.search.proofs.TurnLaws.{cut_on, uncut_busy, grown_turned, full_ends}
 use Rattle.search.proofs.turns.take.Goals as goal
 
--- ---- the goals
-
 pub returns-then-cut : goal.returns-then-cut
 returns-then-cut c = (
   cut_on c.requires.0 c.mark.new.t c.mark.ensures (omega arith) (sym c.slot_cut-cut.ensures ∙ c.if-cut.true),

@@ -5,8 +5,6 @@ use Rattle.held.proofs.Lookup.{least_at, least_nothing}
 use Rattle.search.proofs.TurnLaws.{idle_room, nothing_ends}
 use Rattle.search.proofs.turns.turn.Goals as goal
 
--- ---- the goals
-
 pub turn_at-requires : goal.turn_at-requires
 turn_at-requires c = (
   c.requires.0,

@@ -2,8 +2,6 @@
 use Rattle.search.proofs.TurnLaws.{idle_room, idle_chained, none_takes, goal_ends}
 use Rattle.search.proofs.turns.turn_at.Goals as goal
 
--- ---- the goals
-
 pub first_goal-requires : goal.first_goal-requires
 first_goal-requires c = let p = c.requires in (p.0.1.accepted, idle_room p.0, idle_chained p.0)
 
