@@ -99,6 +99,8 @@ def turned(text, new):
 def main():
     every = [f for f in glob.glob("crates/**/*", recursive=True) if "/out/" not in f and os.path.isfile(f)]
     proofs = sorted(f for f in every if f.endswith(".antt"))
+    if any("same_key_lem" in open(f).read() for f in proofs):
+        raise SystemExit("these files are turned already")
     new = mapping(proofs)
     for f in every:
         if f.endswith((".antt", ".rt", ".edit")):

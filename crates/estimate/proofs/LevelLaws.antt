@@ -19,7 +19,7 @@ use Rattle.estimate.specs.Meaning.{never, dearest, end_is, ends_is, Estimates}
 use Rattle.estimate.specs.Turns.{Low, AllLow, ends_at, Passed}
 use Rattle.estimate.proofs.EndLaws.{end_none, all_low_more}
 use Rattle.estimate.proofs.GainLaws.{held, gain_none, gain_some}
-use Rattle.estimate.proofs.Answers.{answers_cost, answers_nothing}
+use Rattle.estimate.proofs.AnswerLaws.{answers_cost, answers_nothing}
 
 -- No level or end is above this where so many turns are left.
 abbrev pub ceiling : ℕ → ℕ

@@ -4,5 +4,5 @@ pub mod EndLaws
 pub mod GainLaws
 pub mod PassLaws
 pub mod UsableLaws
-pub mod Answers
+pub mod AnswerLaws
 pub mod LevelLaws

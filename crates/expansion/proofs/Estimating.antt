@@ -9,7 +9,7 @@ use Rattle.model.specs.search.Query.{Query, job_for}
 use Rattle.estimate.specs.declared.Estimated.{Estimated}
 use Rattle.estimate.specs.declared.Estimated.TheVariants.{Cost, Nothing}
 use Rattle.estimate.specs.Meaning.{Estimates}
-use Rattle.estimate.proofs.Answers.{estimate_some, estimate_most, estimate_none}
+use Rattle.estimate.proofs.AnswerLaws.{estimate_some, estimate_most, estimate_none}
 use Rattle.held.specs.Held.{node_for, HasEstimate}
 
 module _ (job : Query) (node : List ℕ) {r : Estimated} (x : Estimates (job_for job) (node_for job.bytes node).state r) where

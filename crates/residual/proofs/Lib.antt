@@ -8,5 +8,5 @@ pub mod Settings
 pub mod Told
 pub mod Passing
 pub mod ByTruths
-pub mod Answers
+pub mod AnswerLaws
 pub mod Examples

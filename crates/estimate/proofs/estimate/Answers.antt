@@ -1,4 +1,4 @@
--- What the turns that are left come to is the estimate: the invariant.
+-- At the start all turns are left, and what a turn does is the first of those that were left.
 use mathlib.Core.Path.{◌≡◌, ◌∙◌}
 use native.Mathlib.Omega.{arith}
 use Rattle.model.specs.job.Layout.{job_of}

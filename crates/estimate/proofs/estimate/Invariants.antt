@@ -1,4 +1,4 @@
--- What the turns that are left come to is the estimate: the invariant.
+-- What the turns that are left come to is the estimate; a turn fewer is left each time.
 use Rattle.model.specs.search.Query.{query, job_for}
 use Rattle.estimate.proofs.LevelLaws.{Rising}
 use Rattle.estimate.proofs.estimate.Given as goal

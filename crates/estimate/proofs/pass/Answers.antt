@@ -1,4 +1,4 @@
--- The actions below i of the restricted job are passed: the invariant.
+-- One action more is passed each turn: counted if it is usable, left as it was if it is barred.
 use mathlib.Core.Path.{◌≡◌, refl, ◌∙◌}
 use Prim.Native.Nat.{◌≤◌, ◌<◌}
 use native.Mathlib.Omega.{arith}

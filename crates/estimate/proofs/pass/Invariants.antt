@@ -1,4 +1,4 @@
--- The actions below i of the restricted job are passed: the invariant.
+-- The actions below i of the restricted job are passed.
 use Prim.Native.Nat.{◌-◌, ◌≤◌}
 use Rattle.model.specs.search.Query.{query, job_for}
 use Rattle.estimate.proofs.PassLaws.{Passing}

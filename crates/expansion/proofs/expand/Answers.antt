@@ -1,4 +1,4 @@
--- `expand` follows the actions in order: those below a came to the table at hand, and the choices are those of the others.
+-- `expand` follows the actions in order, those alone that are chosen.
 use Rattle.job.proofs.Accepted.{accepted_laid}
 use Rattle.model.specs.job.Job.{action_of}
 use Rattle.model.specs.job.Layout.{action_count, constraint_count}

@@ -1,4 +1,4 @@
--- `expand` follows the actions in order: those below a came to the table at hand, and the choices are those of the others.
+-- The actions below a came to the table at hand, and the choices are those of the others.
 use Rattle.model.specs.search.Query.{query}
 use mathlib.Core.Path.{◌≡◌}
 use Prim.Native.Nat.{◌-◌, ◌/◌, ◌^◌}

@@ -1,4 +1,4 @@
--- `same_node` compares words: the first j agree.
+-- `same_node` compares words, and the first that differ decide.
 use native.Mathlib.Omega.{arith}
 use mathlib.Core.Path.{refl, sym, ◌∙◌}
 use Rattle.table.proofs.LookupLaws.{same_on, same_not, same_end}

@@ -1,4 +1,4 @@
--- `read` answers by the code at its position: the proof of the cycle of calls {read}. The measure is the number of bytes left.
+-- `read` answers by the code at its position.
 use mathlib.Core.Path.{◌≡◌, sym, ap, ◌∙◌}
 use mathlib.Core.Bool.{Bool, ◌||◌}
 use mathlib.Core.List.{List}

@@ -1,4 +1,4 @@
--- `read` answers by the code at its position: the proof of the cycle of calls {read}. The measure is the number of bytes left.
+-- The measure of `read`'s recursion is the number of bytes left.
 use Prim.Native.Nat.{◌-◌}
 use lib.ListN.{length}
 use Rattle.formula.proofs.+read.Given as goal

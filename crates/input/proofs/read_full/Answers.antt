@@ -9,14 +9,14 @@ use lib.Seq.{take-add, take-append-le}
 use Rattle.input.proofs.read_full.Goals as goal
 
 -- a list whose first a elements stand as before, up to b
-take-split : (a b : ℕ) (old new : List ℕ) → a ≤ b → take a new ≡ take a old → take a old ++ slice_range new a b ≡ take b new
-take-split a b old new h front =
+take_split : (a b : ℕ) (old new : List ℕ) → a ≤ b → take a new ≡ take a old → take a old ++ slice_range new a b ≡ take b new
+take_split a b old new h front =
     let same : a + (b - a) ≡ b = omega arith in
     ap (λ l. l ++ slice_range new a b) (sym front) ∙ sym (take-add a (b - a) new) ∙ ap (λ n. take n new) same
 
 -- the first n elements of a part, where it stands in the whole
-range-put-mid : (a k n : ℕ) (xs ys : List ℕ) → a ≤ length xs → n ≤ length ys → slice_range (put_mid a k xs ys) a (a + n) ≡ take n ys
-range-put-mid a k n xs ys within fits =
+range_put_mid : (a k n : ℕ) (xs ys : List ℕ) → a ≤ length xs → n ≤ length ys → slice_range (put_mid a k xs ys) a (a + n) ≡ take n ys
+range_put_mid a k n xs ys within fits =
     let same : (a + n) - a ≡ n = omega arith in
     let after = post_of a k xs in
     ap (take ((a + n) - a)) (drop_at (take a xs) (ys ++ after) a (length-take-le a xs within))
@@ -27,9 +27,9 @@ loop-at-preserved g c =
     let from = c.loop-at.at in
     let room = length c.loop-at.buffer - from in
     let within = c.loop-at.invariant.0 in
-    let part = range-put-mid from room c.in_ok-n.n c.loop-at.buffer c.read.new.buf within c.in_ok-n.ensures.bound.0 in
+    let part = range_put_mid from room c.in_ok-n.n c.loop-at.buffer c.read.new.buf within c.in_ok-n.ensures.bound.0 in
     let filled = put_mid from room c.loop-at.buffer c.read.new.buf in
-    let joined = take-split from (from + c.in_ok-n.n) c.loop-at.buffer filled (omega arith) (take-put_mid_below _ _ _ _ _ (le_refl _) within) in (
+    let joined = take_split from (from + c.in_ok-n.n) c.loop-at.buffer filled (omega arith) (take-put_mid_below _ _ _ _ _ (le_refl _) within) in (
       search rules,
       subst (Consumes _ _) (ap (λ l. take from c.loop-at.buffer ++ l) (sym part) ∙ joined)
           (Consumes-trans _ _ _ _ _ c.loop-at.invariant.1 c.in_ok-n.ensures.bytes.0),

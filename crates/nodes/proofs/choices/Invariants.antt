@@ -1,5 +1,4 @@
--- `choices` goes from the last eight actions to the first: the set is that of the actions after those that are left. At the end the bits of the actions
--- that may not be used are cleared.
+-- Where some eights of actions are left, the set is that of the actions after them.
 use mathlib.Core.Path.{◌≡◌}
 use Prim.Native.Nat.{◌-◌, ◌*◌, ◌≤◌}
 use Rattle.model.specs.job.Layout.{job_of}

@@ -1,4 +1,4 @@
--- `before` goes back on both paths: the two slots at hand are to be compared in place of the two given, and have fewer steps each turn.
+-- `before` goes back on both paths until their parents are one.
 use mathlib.Core.Path.{refl, sym, ◌∙◌}
 use native.Mathlib.Omega.{arith}
 use Rattle.table.proofs.LookupLaws.{length-first}

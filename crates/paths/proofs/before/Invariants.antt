@@ -1,4 +1,4 @@
--- `before` goes back on both paths: the two slots at hand are to be compared in place of the two given, and have fewer steps each turn.
+-- The two slots at hand are to be compared in place of the two given, and have fewer steps each turn.
 use mathlib.Core.Path.{◌≡◌}
 use Rattle.paths.specs.Chain.{held, parent_at, steps_at, order, Level}
 use Rattle.paths.proofs.before.Given as goal

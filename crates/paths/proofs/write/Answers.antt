@@ -1,4 +1,4 @@
--- `write` goes from the last action to the first: the actions still to write, and then the plan from there on, are what is wanted.
+-- `write` goes from the last action to the first.
 use mathlib.Core.Path.{◌≡◌, refl, sym, ap, ◌∙◌}
 use mathlib.Core.List.{◌++◌}
 use Prim.Native.Nat.{ℕ, suc, ◌-◌}

@@ -1,4 +1,4 @@
--- `write` goes from the last action to the first: the actions still to write, and then the plan from there on, are what is wanted.
+-- The actions still to write, and then the plan from there on, are what is wanted.
 use mathlib.Core.Path.{◌≡◌}
 use mathlib.Core.List.{◌++◌}
 use Prim.Native.Nat.{◌<◌, ◌≤◌}

@@ -1,4 +1,4 @@
--- `constraints_close` passes constraints that are true of the closing world: the invariant. The first that is not decides.
+-- `constraints_close` passes constraints that are true of the closing world, and the first that is not decides.
 use borrow.Author.Rules.{rules}
 use native.Mathlib.Omega.{arith}
 use mathlib.Core.Path.{◌≡◌, refl, sym, ◌∙◌}

@@ -1,4 +1,4 @@
--- `constraints_close` passes constraints that are true of the closing world: the invariant. The first that is not decides.
+-- The constraints that were passed are true of the closing world.
 use mathlib.Core.Path.{◌≡◌}
 use Prim.Native.Nat.{◌-◌, ◌≤◌}
 use lib.ListN.{length, take}

@@ -1,4 +1,4 @@
--- `some_dead` passes residuals that are not dead: the invariant. The first dead one decides.
+-- `some_dead` passes residuals that are not dead, and the first dead one decides.
 use native.Mathlib.Omega.{arith}
 use mathlib.Core.Path.{◌≡◌, refl, sym}
 use Rattle.model.specs.search.Node.{some_dead}

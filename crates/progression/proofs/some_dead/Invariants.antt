@@ -1,4 +1,4 @@
--- `some_dead` passes residuals that are not dead: the invariant. The first dead one decides.
+-- The residuals that were passed are not dead.
 use mathlib.Core.Path.{◌≡◌}
 use Prim.Native.Nat.{◌-◌, ◌≤◌}
 use mathlib.Core.Bool.{false}

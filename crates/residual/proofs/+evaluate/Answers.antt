@@ -1,4 +1,4 @@
--- `evaluate` answers by the code at its position: the proof of the cycle of calls {evaluate}. The measure is the number of bytes left.
+-- `evaluate` answers by the code at its position.
 use mathlib.Core.Path.{◌≡◌, sym, ◌∙◌}
 use mathlib.Core.Bool.{Bool, false}
 use mathlib.Core.List.{List}

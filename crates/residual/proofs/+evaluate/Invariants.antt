@@ -1,4 +1,4 @@
--- `evaluate` answers by the code at its position: the proof of the cycle of calls {evaluate}. The measure is the number of bytes left.
+-- The measure of `evaluate`'s recursion is the number of bytes left.
 use Prim.Native.Nat.{◌-◌}
 use lib.ListN.{length}
 use Rattle.residual.proofs.+evaluate.Given as goal

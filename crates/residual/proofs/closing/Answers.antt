@@ -1,7 +1,7 @@
 -- In the closing world the parts' tables are constant, and put for the unknowns of a residual they give its truth there.
 use mathlib.Core.Option.{none}
 use Rattle.model.specs.logic.Reading.{parsed}
-use Rattle.residual.proofs.Answers.{ready_few, ready_upward, closing_answers}
+use Rattle.residual.proofs.AnswerLaws.{ready_few, ready_upward, closing_answers}
 use Rattle.residual.proofs.closing.Goals as goal
 
 pub evaluate-requires : goal.evaluate-requires

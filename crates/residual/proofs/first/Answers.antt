@@ -1,7 +1,7 @@
 -- The walk's table is the residual.
 use mathlib.Core.Option.{none}
 use Rattle.model.specs.logic.Reading.{parsed}
-use Rattle.residual.proofs.Answers.{ready_few, first_answers}
+use Rattle.residual.proofs.AnswerLaws.{ready_few, first_answers}
 use Rattle.residual.proofs.first.Goals as goal
 
 pub evaluate-v-requires : goal.evaluate-v-requires

@@ -5,7 +5,7 @@ use Prim.Native.Nat.{ℕ, ◌<◌}
 use borrow.Author.Tests.{lt-ltb}
 use Rattle.model.specs.logic.Reading.{parsed}
 use Rattle.residual.specs.Node.{made_by}
-use Rattle.residual.proofs.Answers.{ready_few, ready_upward, next_answers}
+use Rattle.residual.proofs.AnswerLaws.{ready_few, ready_upward, next_answers}
 use Rattle.residual.proofs.next.Goals as goal
 
 made_is : (action : ℕ) → action < 64 → made_by action ≡ some action

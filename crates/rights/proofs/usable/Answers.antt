@@ -1,4 +1,4 @@
--- `usable` has the bits of the steps from i on: the invariant.
+-- `usable` goes from the last step to the first, and puts each one's bit below the others.
 use mathlib.Core.Path.{◌∙◌}
 use native.Mathlib.Omega.{arith}
 use Rattle.rights.proofs.StepBits.{bits_none, bits_all, bits_room, bits_more}

@@ -1,4 +1,4 @@
--- `usable` has the bits of the steps from i on: the invariant.
+-- The bits are those of the steps from i on.
 use mathlib.Core.Path.{◌≡◌}
 use Prim.Native.Nat.{◌≤◌}
 use lib.ListN.{length, drop}

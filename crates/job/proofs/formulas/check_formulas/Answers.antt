@@ -1,4 +1,4 @@
--- `check_formulas` passes formulas while their checks are fine: the invariant. The first that refuses decides.
+-- `check_formulas` passes formulas while their checks are fine, and the first that refuses decides.
 use mathlib.Core.List.{List}
 use Prim.Native.Nat.{ℕ, ◌+◌}
 use native.Mathlib.Omega.{arith}

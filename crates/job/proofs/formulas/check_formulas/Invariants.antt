@@ -1,4 +1,4 @@
--- `check_formulas` passes formulas while their checks are fine: the invariant. The first that refuses decides.
+-- The checks of the formulas that were passed are fine.
 use mathlib.Core.List.{List}
 use mathlib.Core.Path.{◌≡◌}
 use Prim.Native.Nat.{ℕ, ◌+◌, ◌≤◌, ◌-◌}

@@ -1,4 +1,4 @@
--- `check_each_pair` passes pairs while their checks are fine: the invariant. The first that refuses decides.
+-- `check_each_pair` passes pairs while their checks are fine, and the first that refuses decides.
 use native.Mathlib.Omega.{arith}
 use Rattle.job.proofs.TurnLaws.{refused_at, fine_at, none_yet, all_fine}
 use Rattle.job.proofs.pairs.check_each_pair.Goals as goal

@@ -1,4 +1,4 @@
--- `check_each_pair` passes pairs while their checks are fine: the invariant. The first that refuses decides.
+-- The checks of the pairs that were passed are fine.
 use mathlib.Core.Path.{◌≡◌}
 use Prim.Native.Nat.{◌≤◌, ◌-◌}
 use Rattle.model.specs.declared.Verdict.TheVariants.{Fine}

@@ -1,4 +1,4 @@
--- `check_action` passes sets while their checks are fine: the invariant. The first that refuses decides.
+-- `check_action` passes sets while their checks are fine, and the first that refuses decides.
 use native.Mathlib.Omega.{arith}
 use Rattle.model.specs.job.Layout.{set_count}
 use Rattle.model.specs.job.Decoding.{action_verdict}
@@ -6,7 +6,6 @@ use Rattle.job.proofs.TurnLaws.{refused_at, fine_at, none_yet, all_fine}
 use Rattle.job.proofs.Bounds.{task_pair, action_there, set_inside}
 use Rattle.job.proofs.task.check_action.Invariants.{set_checked}
 use Rattle.job.proofs.task.check_action.Goals as goal
-use Rattle.job.proofs.task.check_action.Goals.{After-check_set-verdict, At-loop-k}
 
 pub set_count-n-requires : goal.set_count-n-requires
 set_count-n-requires c = task_pair c.requires.0

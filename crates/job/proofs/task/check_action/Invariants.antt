@@ -1,4 +1,4 @@
--- `check_action` passes sets while their checks are fine: the invariant. The first that refuses decides.
+-- The checks of the sets that were passed are fine.
 use mathlib.Core.Path.{◌≡◌}
 use Prim.Native.Nat.{ℕ, ◌≤◌, ◌-◌}
 use mathlib.Core.List.{List}

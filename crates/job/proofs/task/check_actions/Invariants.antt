@@ -1,4 +1,4 @@
--- `check_actions` passes actions while their checks are fine: the invariant. The first that refuses decides.
+-- The checks of the actions that were passed are fine.
 use mathlib.Core.Path.{◌≡◌}
 use Prim.Native.Nat.{◌≤◌, ◌-◌}
 use Rattle.model.specs.declared.Verdict.TheVariants.{Fine}

@@ -1,4 +1,4 @@
--- What the formulas before section i name is written down: the invariant.
+-- `prepare` writes down what each formula names, one section a turn.
 use native.Mathlib.Omega.{arith}
 use mathlib.Core.Path.{refl}
 use lib.ListN.{length-set}

@@ -1,4 +1,4 @@
--- What the formulas before section i name is written down: the invariant.
+-- What the formulas before section i name is written down.
 use mathlib.Core.Path.{◌≡◌}
 use Prim.Native.Nat.{◌-◌, ◌≤◌}
 use lib.ListN.{length}

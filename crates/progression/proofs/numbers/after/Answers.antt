@@ -1,4 +1,4 @@
--- The numbers after the bytes passed are in the set: the invariant.
+-- A byte more puts one number into the set at most.
 use native.Mathlib.Omega.{arith}
 use Rattle.progression.proofs.NumbersLaws.{one_more, none_more}
 use Rattle.progression.proofs.numbers.after.Goals as goal

@@ -1,4 +1,4 @@
--- The numbers after the bytes passed are in the set: the invariant.
+-- The numbers after the bytes passed are in the set.
 use Prim.Native.Nat.{◌-◌, ◌≤◌}
 use lib.ListN.{length}
 use Rattle.progression.specs.Numbers.{AfterIn}

@@ -1,4 +1,4 @@
--- `first` has filled the array as far as it has come: the invariant.
+-- `first` fills one element a turn with what the formula leaves.
 use Rattle.model.specs.job.Layout.{pair_count}
 use Rattle.job.proofs.Accepted.{accepted_laid}
 use native.Mathlib.Omega.{arith}

@@ -1,4 +1,4 @@
--- `first` has filled the array as far as it has come: the invariant.
+-- The array is filled as far as the loop has come.
 use mathlib.Core.Path.{◌≡◌}
 use Prim.Native.Nat.{◌-◌, ◌≤◌}
 use mathlib.Core.Option.{none}

@@ -1,4 +1,4 @@
--- `next` has filled the array as far as it has come: the invariant.
+-- `next` fills one element a turn with what the residual leaves.
 use Rattle.model.specs.job.Layout.{pair_count}
 use Rattle.job.proofs.Accepted.{accepted_laid}
 use borrow.Author.Rules.{rules}

@@ -1,4 +1,4 @@
--- `next` has filled the array as far as it has come: the invariant.
+-- The array is filled as far as the loop has come.
 use mathlib.Core.Path.{◌≡◌}
 use Prim.Native.Nat.{◌-◌, ◌≤◌}
 use lib.ListN.{length, take}

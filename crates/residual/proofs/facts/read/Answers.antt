@@ -1,4 +1,4 @@
--- What was read and what is ahead make up the truths of the formula's fact codes.
+-- `read` takes the truth of one code a turn from what is ahead to what was read.
 use native.Mathlib.Omega.{arith}
 use mathlib.Core.Path.{refl}
 use Rattle.model.specs.logic.Reading.{parsed}

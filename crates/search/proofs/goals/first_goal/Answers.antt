@@ -1,4 +1,4 @@
--- `first_goal` goes from the last slot to the first: what was found is the first of the slots from i on.
+-- `first_goal` goes from the last slot to the first, and chooses between each slot and what was found after it.
 use mathlib.Core.Path.{◌≡◌}
 use Prim.Native.Nat.{◌+◌, ◌-◌}
 use native.Mathlib.Omega.{arith}

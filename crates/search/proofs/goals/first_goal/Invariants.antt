@@ -1,4 +1,4 @@
--- `first_goal` goes from the last slot to the first: what was found is the first of the slots from i on.
+-- What was found is the first of the slots from i on.
 use mathlib.Core.Path.{◌≡◌}
 use Prim.Native.Nat.{◌≤◌}
 use lib.ListN.{drop}

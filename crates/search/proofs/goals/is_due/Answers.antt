@@ -1,4 +1,5 @@
 -- `is_due` tests the goal mark, the cost and the steps, and then it is the hints that decide.
+use native.Mathlib.Omega.{arith}
 use Rattle.table.specs.Slots.{slot_at}
 use Rattle.search.specs.GoalSlots.{slot_cut}
 use Rattle.search.proofs.GoalLaws.{no_goal_lem, other_cost, other_steps, is_due_lem}
@@ -12,7 +13,7 @@ returns-then-not-is_goal c =
 pub returns-then-cost : goal.returns-then-cost
 returns-then-cost c =
     let s = c.args in
-    other_cost s.job.now s.cost s.steps _ _ c.cost.ensures.0 c.if-cost.true
+    other_cost s.job.now s.cost s.steps _ _ c.cost.ensures.0 (λ e. omega arith)
 
 pub returns-then-steps : goal.returns-then-steps
 returns-then-steps c =

@@ -1,4 +1,4 @@
--- `some_cut` goes from slot to slot: the first i are not cut.
+-- `some_cut` goes from slot to slot, and the first that is cut decides.
 use mathlib.Core.Path.{refl}
 use native.Mathlib.Omega.{arith}
 use Rattle.table.proofs.LookupLaws.{length-first, first_at}

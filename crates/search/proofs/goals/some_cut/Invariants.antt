@@ -1,4 +1,4 @@
--- `some_cut` goes from slot to slot: the first i are not cut.
+-- The first i slots are not cut.
 use mathlib.Core.Path.{◌≡◌}
 use Prim.Native.Nat.{◌≤◌, ◌-◌}
 use lib.ListN.{drop}

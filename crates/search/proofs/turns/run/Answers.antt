@@ -1,4 +1,4 @@
--- `run` makes turns while some are left: what is still to come is what the whole search comes to.
+-- `run` makes turns while some are left, and an end ends it.
 use mathlib.Core.Path.{refl, ap}
 use Prim.Native.Nat.{ℕ, ◌-◌}
 use native.Mathlib.Numerals.{add-one}

@@ -1,4 +1,4 @@
--- `run` makes turns while some are left: what is still to come is what the whole search comes to.
+-- What is still to come is what the whole search comes to.
 use mathlib.Core.Path.{◌≡◌}
 use mathlib.Core.List.{List}
 use Prim.Native.Nat.{ℕ, suc}

@@ -1,4 +1,4 @@
--- `get_row` reads a row: after j turns the first j words are read.
+-- `get_row` reads a word a turn.
 use native.Mathlib.Omega.{arith}
 use mathlib.Core.Path.{◌≡◌, refl}
 use mathlib.Core.List.{append-nil}

@@ -1,4 +1,4 @@
--- `get_row` reads a row: after j turns the first j words are read.
+-- The first j words are read.
 use mathlib.Core.Path.{◌≡◌}
 use mathlib.Core.List.{◌++◌}
 use Prim.Native.Nat.{◌+◌, ◌*◌, ◌≤◌, ◌-◌}

@@ -1,4 +1,4 @@
--- `put_row` writes a row: after j turns the first j words are written.
+-- `put_row` writes a word a turn.
 use native.Mathlib.Omega.{arith}
 use mathlib.Core.Path.{◌≡◌, refl}
 use Prim.Native.Nat.{◌*◌, ◌^◌, ◌<◌}

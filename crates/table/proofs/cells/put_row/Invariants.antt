@@ -1,4 +1,4 @@
--- `put_row` writes a row: after j turns the first j words are written.
+-- The first j words are written.
 use mathlib.Core.Path.{◌≡◌}
 use Prim.Native.Nat.{ℕ, ◌*◌, ◌^◌, ◌≤◌, ◌<◌, ◌-◌}
 use lib.ListN.{length, get_or}

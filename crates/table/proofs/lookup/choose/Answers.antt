@@ -8,7 +8,7 @@ use Rattle.table.proofs.LookupLaws.{better_taken, better_first, better_behind, b
 use Rattle.table.proofs.lookup.choose.Goals as goal
 use Rattle.table.proofs.lookup.choose.Goals.{After-steps-steps}
 
--- ---- the places: the slot is open, and its rank was read
+-- ---- what is known once the rank of the slot, which is open, was read
 
 -- the slot i, as the bytes are at the start
 abbrev slot : After-steps-steps → Slot

@@ -1,4 +1,4 @@
--- `find` looks at one slot after the other: the first i are of other nodes.
+-- `find` looks at one slot after the other.
 use native.Mathlib.Omega.{arith}
 use mathlib.Core.Path.{refl, sym, ◌∙◌}
 use lib.ListN.{take}

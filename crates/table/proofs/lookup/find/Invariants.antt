@@ -1,4 +1,4 @@
--- `find` looks at one slot after the other: the first i are of other nodes.
+-- The first i slots are of other nodes.
 use mathlib.Core.Path.{◌≡◌}
 use Prim.Native.Nat.{◌≤◌, ◌-◌}
 use lib.ListN.{take, drop}

@@ -1,4 +1,4 @@
--- `least` goes from the last slot to the first: the best is that of the slots from i on.
+-- `least` goes from the last slot to the first, and chooses between each slot and the best after it.
 use native.Mathlib.Omega.{arith}
 use mathlib.Core.Path.{◌≡◌, ◌∙◌, ap}
 use Prim.Native.Nat.{◌-◌}

@@ -1,4 +1,4 @@
--- `least` goes from the last slot to the first: the best is that of the slots from i on.
+-- The best is that of the slots from i on.
 use mathlib.Core.Path.{◌≡◌}
 use Prim.Native.Nat.{◌≤◌}
 use lib.ListN.{take, drop}

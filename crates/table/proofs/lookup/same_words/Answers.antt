@@ -1,4 +1,4 @@
--- `same_words` compares words: the first j agree.
+-- `same_words` compares words, and the first that differ decide.
 use native.Mathlib.Omega.{arith}
 use mathlib.Core.Path.{refl}
 use Rattle.table.proofs.LookupLaws.{node_on, node_not, node_end}

@@ -1,4 +1,4 @@
--- `same_words` compares words: the first j agree.
+-- The first j words agree.
 use mathlib.Core.Path.{◌≡◌}
 use Prim.Native.Nat.{◌≤◌, ◌-◌}
 use lib.ListN.{drop}

@@ -1,4 +1,4 @@
--- `clear` makes every byte zero: after i turns the first i are.
+-- `clear` makes a byte zero a turn.
 use borrow.Author.Fill.{fill_more}
 use Prim.Native.Nat.{ℕ, ◌<◌, ◌+◌}
 use native.Mathlib.Omega.{arith}

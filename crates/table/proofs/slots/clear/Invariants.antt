@@ -1,4 +1,4 @@
--- `clear` makes every byte zero: after i turns the first i are.
+-- The first i bytes are zero.
 use Prim.Native.Nat.{◌≤◌, ◌-◌}
 use mathlib.Core.Path.{◌≡◌}
 use mathlib.Core.List.{◌++◌}
