@@ -1,8 +1,8 @@
 -- One arrival: what it makes of the table, at a new node, with a lesser key, with the same key, or with a larger one.
+use Rattle.std.proofs.Common.{Some}
 use mathlib.Core.Path.{◌≡◌, refl, sym, ap, ◌∙◌, subst}
 use Prim.Native.Nat.{ℕ, suc, ◌<◌}
 use mathlib.Core.Bool.{true, false, ◌&&◌, true≢false}
-use mathlib.Core.Option.{some}
 use mathlib.Core.List.{List, [], ◌∷◌, ◌++◌}
 use mathlib.Core.Logic.{◌⊎◌, inl, inr}
 use Rattle.model.specs.exploration.Key.{Key, Le, Lt, First}
@@ -19,7 +19,7 @@ use Rattle.astar.proofs.Kept.{put_inv}
 use Rattle.astar.proofs.Sending.{Before, Expanding, put_keeps, put_back, arrival, before_old, before_new, before_cases}
 
 module _ (S : System) (laws : Laws S) {m0 : S.Node} {t : Table S} {i : ℕ} {q : Held S} {c : ℕ} (x : Expanding S m0 t i q c) (b : c < S.actions)
-    {n : S.Node} (leads : S.step q.node c ≡ some n) where
+    {n : S.Node} (leads : S.step q.node c ≡ Some n) where
   abbrev y : Entry S
   y = arrival S x b leads
 

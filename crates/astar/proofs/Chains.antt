@@ -1,8 +1,8 @@
 -- Chains of parents, for code that follows them: different slots have different paths.
+use Rattle.std.proofs.Common.{Option, Some}
 use mathlib.Core.Path.{◌≡◌, refl, sym, ap, ◌∙◌, subst}
 use Prim.Native.Nat.{ℕ, zero, suc}
 use native.Mathlib.Omega.{arith}
-use mathlib.Core.Option.{Option, some}
 use mathlib.Core.List.{List, [], ◌∷◌, ◌++◌}
 use lib.ListN.{length, length-append}
 use Rattle.model.specs.exploration.System.{System}
@@ -33,6 +33,6 @@ module _ (S : System) {m0 : S.Node} {t : Table S} {P : Entry S → Type 0} (inv 
       let s = snoc_parts _ _ r.action q.action (sym (path_suc S t n i h) ∙ p ∙ path_suc S t n j k) in
       let d : r.parent ≡ q.parent = path_slot n r.parent q.parent a.source b.source a.held b.held (omega (arith, linked_steps S a)) (omega (arith, linked_steps S b)) s.0 in
       let c : a.source ≡ b.source = holds_one t q.parent (subst (λ (z : ℕ). Holds t z a.source) d a.held) b.held in
-      let m : ◌≡◌ {A = Option S.Node} (some r.node) (some q.node) = sym a.leads ∙ (λ z. S.step (c z).node (s.1 z)) ∙ b.leads in
+      let m : ◌≡◌ {A = Option S.Node} (Some r.node) (Some q.node) = sym a.leads ∙ (λ z. S.step (c z).node (s.1 z)) ∙ b.leads in
       let o : r.node ≡ q.node = cc in
       inv.distinct i j r q h k o

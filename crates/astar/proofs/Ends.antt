@@ -1,9 +1,9 @@
 -- The other ends of a search: nothing is open, or the table is full.
+use Rattle.std.proofs.Common.{Some}
 use mathlib.Core.Path.{◌≡◌, refl, sym, ap, ◌∙◌, subst}
 use Prim.Native.Nat.{ℕ, zero, suc, ◌<◌}
 use native.Mathlib.Omega.{arith}
 use mathlib.Core.Bool.{Bool, true, false, true≢false}
-use mathlib.Core.Option.{some}
 use mathlib.Core.List.{List, [], ◌∷◌, map}
 use lib.ListN.{length, length-map}
 use Rattle.model.specs.exploration.Key.{Key, zero_key, Le, Lt}
@@ -110,7 +110,7 @@ module _ (S : System) (laws : Laws S) where
           (s, r, h, refl, refl, refl, l)
 
       -- A node to which an action leads from a taken record that is not cut is reached.
-      next_reached : (s : ℕ) (r : Held S) → Holds t s r → r.taken ≡ true → S.cut r.hints ≡ false → (a : ℕ) → a < S.actions → {n : S.Node} → S.step r.node a ≡ some n → (k : Key) × (g : S.Hints) × R n k g
+      next_reached : (s : ℕ) (r : Held S) → Holds t s r → r.taken ≡ true → S.cut r.hints ≡ false → (a : ℕ) → a < S.actions → {n : S.Node} → S.step r.node a ≡ Some n → (k : Key) × (g : S.Hints) × R n k g
       next_reached s r h y c a b {n} l = truth.complete tt (arrives_by S R a (taken_reached s r h y) b c l)
 
       each_reached : (s : ℕ) (r : Held S) → Holds t s r → (k : Key) × (g : S.Hints) × R r.node k g

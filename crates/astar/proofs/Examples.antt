@@ -1,8 +1,8 @@
 -- The search evaluated: on job P, and on a rail with and without an estimate.
+use Rattle.std.proofs.Common.{Option, None, Some}
 use mathlib.Core.Path.{◌≡◌, refl}
 use Prim.Native.Nat.{ℕ, zero, suc, ◌-◌, ◌*◌}
 use mathlib.Core.Bool.{true, false}
-use mathlib.Core.Option.{Option, none, some}
 use mathlib.Core.List.{[], ◌∷◌}
 use lib.Dec.{eqb}
 use Rattle.model.specs.exploration.System.{System}
@@ -29,9 +29,9 @@ four = refl
 -- ---- a rail: from position 10 to position 12, by an action that goes one up and costs 2, and one that goes one down and costs 1
 
 abbrev move : ℕ → ℕ → Option ℕ
-move n zero = some (suc n)
-move zero (suc a) = none
-move (suc n) (suc a) = some n
+move n zero = Some (suc n)
+move zero (suc a) = None
+move (suc n) (suc a) = Some n
 
 abbrev price : ℕ → ℕ
 price zero = 2
@@ -41,7 +41,7 @@ abbrev rail : (ℕ → ℕ) → System
 rail estimate = record {
   Node = ℕ;
   same = eqb;
-  start = some 10;
+  start = Some 10;
   actions = 2;
   cost = price;
   step = move;

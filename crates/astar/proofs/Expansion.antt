@@ -1,10 +1,10 @@
 -- All actions from a slot: the table goes on with the invariant, or it is full and a new node arrives.
+use Rattle.std.proofs.Common.{Option, None, Some}
 use mathlib.Core.Path.{◌≡◌, refl, sym, ap, ◌∙◌, subst}
 use Prim.Native.Nat.{ℕ, zero, suc, ◌≤◌, ◌<◌}
 use native.Mathlib.Omega.{arith}
 use native.Mathlib.Decide.{ℕ_discrete}
 use mathlib.Core.Bool.{Bool, true, false, true≢false}
-use mathlib.Core.Option.{Option, none, some}
 use mathlib.Core.Logic.{◌⊎◌, inl, inr}
 use lib.ListN.{length, set}
 use lib.Dec.{ltb}
@@ -31,7 +31,7 @@ module _ (S : System) (laws : Laws S) (slots : ℕ) where
     abbrev Goes : Filled S → Type 0
     Goes f = Went S laws slots m0 t i q (suc c) f
 
-    module _ (j : ℕ) (r : Held S) (held : Holds t j r) (leads : S.step q.node c ≡ some r.node) where
+    module _ (j : ℕ) (r : Held S) (held : Holds t j r) (leads : S.step q.node c ≡ Some r.node) where
       abbrev k : Key
       k = extend q.key (S.cost c)
 
@@ -63,7 +63,7 @@ module _ (S : System) (laws : Laws S) (slots : ℕ) where
           go false false true e f g = to _ (rw (e, relaxed, f, g) refl) (tied_went S laws slots x b j r held leads e (sym (same_key_lem _ _ g)))
           go false false false e f g = to r (rw (e, relaxed, f, g) (kept false e)) (larger_went S laws slots x b j r held leads (larger f g))
 
-    module _ {n : S.Node} (leads : S.step q.node c ≡ some n) where
+    module _ {n : S.Node} (leads : S.step q.node c ≡ Some n) where
       abbrev arrival_at : Filled S
       arrival_at = arrive S slots t n (extend q.key (S.cost c)) (S.carry q.hints n c) i c
 
@@ -71,7 +71,7 @@ module _ (S : System) (laws : Laws S) (slots : ℕ) where
       unfolding arrive
       arrive_went = go (find S n t 0) refl
         where
-          room : (a : Bool) → ltb (length t) slots ≡ a → find S n t 0 ≡ none → Goes arrival_at
+          room : (a : Bool) → ltb (length t) slots ≡ a → find S n t 0 ≡ None → Goes arrival_at
           room true e f = rw (f, arrive, e) (new_went S laws slots x b leads (find_none S n t f) (ltb-true _ _ e))
           room false e f = rw (f, arrive, e) (record {
             table = t;
@@ -84,17 +84,17 @@ module _ (S : System) (laws : Laws S) (slots : ℕ) where
             new = find_none S n t f;
           })
 
-          known : {j : ℕ} → find S n t 0 ≡ some j → (r : Held S) → Holds t j r → n ≡ r.node → Goes arrival_at
+          known : {j : ℕ} → find S n t 0 ≡ Some j → (r : Held S) → Holds t j r → n ≡ r.node → Goes arrival_at
           known {j} f r p e =
               rw (f, arrive, p) (subst (λ (z : S.Node). Goes (goes_on (set t j (relaxed S t r (extend q.key (S.cost c)) (S.carry q.hints z c) i c)))) (sym e)
-              (relaxed_went j r p (leads ∙ ap some e)))
+              (relaxed_went j r p (leads ∙ ap Some e)))
 
           go : (o : Option ℕ) → find S n t 0 ≡ o → Goes arrival_at
-          go none f = room (ltb (length t) slots) refl f
-          go (some j) f = let r = find_some S n t f in known f r.0 r.1 (laws.same_eq _ _ r.2)
+          go None f = room (ltb (length t) slots) refl f
+          go (Some j) f = let r = find_some S n t f in known f r.0 r.1 (laws.same_eq _ _ r.2)
 
     -- An action that leads nowhere makes no arrival.
-    stays : S.step q.node c ≡ none → Expanding S m0 t i q (suc c)
+    stays : S.step q.node c ≡ None → Expanding S m0 t i q (suc c)
     stays e = record {
       inv = inv_map S x.inv (Before S t i (suc c)) (λ z k. (k.0, λ s. omega (arith, k.1 s))) (λ z k. (k.0, λ s. not_last z k.0 s (k.1 s) (ℕ_discrete k.0.action c)));
       held = x.held;
@@ -106,7 +106,7 @@ module _ (S : System) (laws : Laws S) (slots : ℕ) where
         not_last : (z : Entry S) (k : Sent S t z) → k.slot ≡ i → k.action < suc c → Dec (k.action ≡ c) → k.action < c
         not_last z k s l (yes d) =
             let p : k.source ≡ q = source_is S x k s in
-            let f : S.step q.node c ≡ some z.node = sym (λ w. S.step (p w).node (d w)) ∙ k.leads in
+            let f : S.step q.node c ≡ Some z.node = sym (λ w. S.step (p w).node (d w)) ∙ k.leads in
             let o : ◌≡◌ {A = ℕ} 0 1 = cc in
             absurd (omega arith)
         not_last z k s l (no d) = omega arith
@@ -116,8 +116,8 @@ module _ (S : System) (laws : Laws S) (slots : ℕ) where
     follow_went = go (S.step q.node c) refl
       where
         go : (o : Option S.Node) → S.step q.node c ≡ o → Goes (follow S slots t q i c)
-        go none e = rw (e, follow) (record { expanding = stays e; keeps = λ s r k h. h; back = λ s r k h. h; room = λ l. l })
-        go (some n) e = rw (e, follow) (arrive_went e)
+        go None e = rw (e, follow) (record { expanding = stays e; keeps = λ s r k h. h; back = λ s r k h. h; room = λ l. l })
+        go (Some n) e = rw (e, follow) (arrive_went e)
 
   -- ---- all actions
 

@@ -1,9 +1,9 @@
 -- One action from a slot that leads to a node: what becomes of the table, where it goes on.
+use Rattle.std.proofs.Common.{Some}
 use mathlib.Core.Path.{◌≡◌, refl, sym, ap, ◌∙◌, subst}
 use Prim.Native.Nat.{ℕ, suc, ◌≤◌, ◌<◌}
 use native.Mathlib.Omega.{arith}
 use mathlib.Core.Bool.{Bool, true, false, true≢false}
-use mathlib.Core.Option.{some}
 use mathlib.Core.List.{List, [], ◌∷◌, ◌++◌}
 use mathlib.Core.Logic.{inl, inr}
 use lib.ListN.{length, length-append, length-set, set}
@@ -34,7 +34,7 @@ module _ (S : System) (laws : Laws S) (slots : ℕ) where
     pub node : S.Node
     pub expanding : Expanding S m0 table i q action
     pub in_range : action < S.actions
-    pub leads : S.step q.node action ≡ some node
+    pub leads : S.step q.node action ≡ Some node
     pub no_room : slots ≤ length table
     pub new : (s : ℕ) (r : Held S) → Holds table s r → S.same node r.node ≡ false
 
@@ -69,7 +69,7 @@ module _ (S : System) (laws : Laws S) (slots : ℕ) where
 
     -- ---- a slot that the arrival alone makes
 
-    module _ {n : S.Node} (leads : S.step q.node c ≡ some n) where
+    module _ {n : S.Node} (leads : S.step q.node c ≡ Some n) where
       abbrev pub newcomer : Held S
       newcomer = record { node = n; key = extend q.key (S.cost c); hints = S.carry q.hints n c; parent = i; action = c; taken = false }
 
@@ -119,7 +119,7 @@ module _ (S : System) (laws : Laws S) (slots : ℕ) where
 
     -- ---- at the node of slot j
 
-    module _ (j : ℕ) (r : Held S) (held : Holds t j r) (leads : S.step q.node c ≡ some r.node) where
+    module _ (j : ℕ) (r : Held S) (held : Holds t j r) (leads : S.step q.node c ≡ Some r.node) where
       abbrev pub y : Entry S
       y = arrival S x b leads
 

@@ -1,9 +1,9 @@
 -- The first path among the uncut goal nodes of a key.
+use Rattle.std.proofs.Common.{Option, None, Some}
 use mathlib.Core.Path.{◌≡◌, refl, sym, ap, ◌∙◌, subst}
 use Prim.Native.Nat.{ℕ, zero, suc, ◌+◌}
 use native.Mathlib.Omega.{arith}
 use mathlib.Core.Bool.{Bool, true, false, not, ◌&&◌, true≢false}
-use mathlib.Core.Option.{Option, none, some}
 use mathlib.Core.List.{List, [], ◌∷◌}
 use mathlib.Core.Logic.{inl}
 use lib.ListN.{length}
@@ -44,8 +44,8 @@ module _ (S : System) (k : Key) where
 
     -- what `first_goal` has of these slots
     abbrev GoalOf : Table S → ℕ → Option (List ℕ) → Type 0
-    GoalOf rs i none = (d : ℕ) (r : Held S) → Holds rs d r → AtGoal r → ⊥
-    GoalOf rs i (some p) = GoalPath rs i p × ((d j : ℕ) (r : Held S) → Holds rs d r → j ≡ i + d → AtGoal r → First p (path_of S t k.steps j))
+    GoalOf rs i None = (d : ℕ) (r : Held S) → Holds rs d r → AtGoal r → ⊥
+    GoalOf rs i (Some p) = GoalPath rs i p × ((d j : ℕ) (r : Held S) → Holds rs d r → j ≡ i + d → AtGoal r → First p (path_of S t k.steps j))
 
     abbrev Sized : Table S → ℕ → Type 0
     Sized rs i = (d j : ℕ) (r : Held S) → Holds rs d r → j ≡ i + d → AtGoal r → length (path_of S t k.steps j) ≡ k.steps
@@ -54,25 +54,25 @@ module _ (S : System) (k : Key) where
     later x rs i p g = (suc g.0, g.1, g.2, g.3, omega (arith, g.4), g.5, g.6)
 
     skip : (x : Held S) (rs : Table S) (i : ℕ) → (AtGoal x → ⊥) → (o : Option (List ℕ)) → GoalOf rs (suc i) o → GoalOf (x ∷ rs) i o
-    skip x rs i n none g = go
+    skip x rs i n None g = go
       where
         go : (d : ℕ) (r : Held S) → Holds (x ∷ rs) d r → AtGoal r → ⊥
         go zero r h a = let e : x ≡ r = cc in n (subst AtGoal (sym e) a)
         go (suc d) r h a = g d r h a
-    skip x rs i n (some p) g = (later x rs i p g.0, go)
+    skip x rs i n (Some p) g = (later x rs i p g.0, go)
       where
         go : (d j : ℕ) (r : Held S) → Holds (x ∷ rs) d r → j ≡ i + d → AtGoal r → First p (path_of S t k.steps j)
         go zero j r h e a = let q : x ≡ r = cc in absurd (n (subst AtGoal (sym q) a))
         go (suc d) j r h e a = g.1 d j r h (omega arith) a
 
-    only : (x : Held S) (rs : Table S) (i : ℕ) → AtGoal x → GoalOf rs (suc i) none → GoalOf (x ∷ rs) i (some (path_of S t k.steps i))
+    only : (x : Held S) (rs : Table S) (i : ℕ) → AtGoal x → GoalOf rs (suc i) None → GoalOf (x ∷ rs) i (Some (path_of S t k.steps i))
     only x rs i a g = ((0, i, x, refl, omega arith, a, refl), go)
       where
         go : (d j : ℕ) (r : Held S) → Holds (x ∷ rs) d r → j ≡ i + d → AtGoal r → First (path_of S t k.steps i) (path_of S t k.steps j)
         go zero j r h e b = let q : i ≡ j = omega arith in inl (ap (path_of S t k.steps) q)
         go (suc d) j r h e b = absurd (g d r h b)
 
-    first_one : (x : Held S) (rs : Table S) (i : ℕ) (p : List ℕ) → Sized (x ∷ rs) i → AtGoal x → GoalOf rs (suc i) (some p) → GoalOf (x ∷ rs) i (some (first_of (path_of S t k.steps i) p))
+    first_one : (x : Held S) (rs : Table S) (i : ℕ) (p : List ℕ) → Sized (x ∷ rs) i → AtGoal x → GoalOf rs (suc i) (Some p) → GoalOf (x ∷ rs) i (Some (first_of (path_of S t k.steps i) p))
     first_one x rs i p sized a g = (first_of_is (GoalPath (x ∷ rs) i) own p (0, i, x, refl, omega arith, a, refl) (later x rs i p g.0), go)
       where
         own : List ℕ
@@ -91,21 +91,21 @@ module _ (S : System) (k : Key) where
     goal_of (x ∷ rs) i sized = go (test x) refl (first_goal S t k rs (suc i)) refl (goal_of rs (suc i) (λ d j r h e a. sized (suc d) j r h (omega arith) a))
       where
         go : (b : Bool) → test x ≡ b → (o : Option (List ℕ)) → first_goal S t k rs (suc i) ≡ o → GoalOf rs (suc i) (first_goal S t k rs (suc i)) → GoalOf (x ∷ rs) i (first_goal S t k (x ∷ rs) i)
-        go true e none f ih = rw (e, first_goal, f) (only x rs i (test_true x e) (rw f at ih))
-        go true e (some p) f ih = rw (e, first_goal, f) (first_one x rs i p sized (test_true x e) (rw f at ih))
+        go true e None f ih = rw (e, first_goal, f) (only x rs i (test_true x e) (rw f at ih))
+        go true e (Some p) f ih = rw (e, first_goal, f) (first_one x rs i p sized (test_true x e) (rw f at ih))
         go false e o f ih = rw (e, first_goal) (skip x rs i (test_false x e) (first_goal S t k rs (suc i)) ih)
 
     module _ (sized : (i : ℕ) (r : Held S) → Holds t i r → r.key ≡ k → length (path_of S t k.steps i) ≡ k.steps) where
       whole : GoalOf t 0 (first_goal S t k t 0)
       whole = goal_of t 0 (λ d j r h e a. let q : d ≡ j = omega arith in sized j r (subst (λ (z : ℕ). Holds t z r) q h) a.0)
 
-      pub goal_none : first_goal S t k t 0 ≡ none → (i : ℕ) (r : Held S) → Holds t i r → AtGoal r → ⊥
+      pub goal_none : first_goal S t k t 0 ≡ None → (i : ℕ) (r : Held S) → Holds t i r → AtGoal r → ⊥
       goal_none e = rw e at whole
 
       -- The path found is that of an uncut goal node of key k, and the first of all these.
-      pub goal_some : {p : List ℕ} → first_goal S t k t 0 ≡ some p
+      pub goal_some : {p : List ℕ} → first_goal S t k t 0 ≡ Some p
           → ((i : ℕ) × (r : Held S) × Holds t i r × AtGoal r × (p ≡ path_of S t k.steps i)) × ((i : ℕ) (r : Held S) → Holds t i r → AtGoal r → First p (path_of S t k.steps i))
       goal_some {p} e =
-          let g : GoalOf t 0 (some p) = rw e at whole in
+          let g : GoalOf t 0 (Some p) = rw e at whole in
           let q : g.0.0 ≡ g.0.1 = omega (arith, g.0.4) in
           ((g.0.1, g.0.2, subst (λ (z : ℕ). Holds t z g.0.2) q g.0.3, g.0.5, g.0.6), λ i r h a. g.1 i i r h (omega arith) a)

@@ -1,9 +1,9 @@
 -- What the search keeps true of its table, and what follows of paths.
+use Rattle.std.proofs.Common.{Some}
 use mathlib.Core.Path.{◌≡◌, refl, sym, ap, ◌∙◌, subst}
 use Prim.Native.Nat.{ℕ, zero, suc, ◌<◌}
 use native.Mathlib.Omega.{arith}
 use mathlib.Core.Bool.{true, false}
-use mathlib.Core.Option.{some}
 use mathlib.Core.List.{[], ◌∷◌, ◌++◌}
 use mathlib.Core.Logic.{◌⊎◌, inl, inr, ◌↔◌}
 use lib.ListN.{length, length-append}
@@ -30,7 +30,7 @@ module _ (S : System) where
     pub taken : source.taken ≡ true
     pub uncut : S.cut source.hints ≡ false
     pub in_range : r.action < S.actions
-    pub leads : S.step source.node r.action ≡ some r.node
+    pub leads : S.step source.node r.action ≡ Some r.node
     pub key_is : r.key ≡ extend source.key (S.cost r.action)
 
   -- x is an arrival from a record that is taken and not cut.
@@ -42,7 +42,7 @@ module _ (S : System) where
     pub taken : source.taken ≡ true
     pub uncut : S.cut source.hints ≡ false
     pub in_range : action < S.actions
-    pub leads : S.step source.node action ≡ some x.node
+    pub leads : S.step source.node action ≡ Some x.node
     pub is : x ≡ To S (entry t slot source) x.node action
 
   -- Of the arrivals P at the node and of the key of e, the hint residuals of e are the conjunction, and its path is the first.

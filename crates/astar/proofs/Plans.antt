@@ -1,9 +1,9 @@
 -- A goal whose key is the least open rank is the answer.
+use Rattle.std.proofs.Common.{Some}
 use mathlib.Core.Path.{◌≡◌, refl, sym, ap, ◌∙◌, subst}
 use Prim.Native.Nat.{ℕ, zero, suc}
 use native.Mathlib.Omega.{arith}
 use mathlib.Core.Bool.{Bool, true, false}
-use mathlib.Core.Option.{some}
 use mathlib.Core.List.{List, [], ◌∷◌, ◌++◌}
 use mathlib.Core.Logic.{inl}
 use lib.ListN.{length}
@@ -76,7 +76,7 @@ module _ (S : System) (laws : Laws S) {m0 : S.Node} (starts : Starts S m0) {t : 
 
   -- ---- the answer
 
-  module _ (barren : Barren S t) {p : List ℕ} (found : first_goal S t k t 0 ≡ some p) where
+  module _ (barren : Barren S t) {p : List ℕ} (found : first_goal S t k t 0 ≡ Some p) where
     abbrev best : ((i : ℕ) × (r : Held S) × Holds t i r × AtGoal S k r × (p ≡ path_of S t k.steps i)) × ((i : ℕ) (r : Held S) → Holds t i r → AtGoal S k r → First p (path_of S t k.steps i))
     best = goal_some S k t (sized S inv k) found
 

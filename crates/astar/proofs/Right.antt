@@ -1,9 +1,9 @@
 -- The search in a table of any number of slots gives the defined answer, or that the table is too small where it is.
+use Rattle.std.proofs.Common.{Option, None, Some}
 use mathlib.Core.Path.{◌≡◌, refl, sym, ap, ◌∙◌, subst}
 use Prim.Native.Nat.{ℕ, zero, suc, ◌+◌, ◌<◌}
 use native.Mathlib.Omega.{arith}
 use mathlib.Core.Bool.{Bool, true, false}
-use mathlib.Core.Option.{Option, none, some}
 use mathlib.Core.List.{List}
 use mathlib.Core.Logic.{◌⊎◌, inl, inr}
 use lib.ListN.{length}
@@ -36,7 +36,7 @@ module _ (S : System) (slots : ℕ) where
     Turns n = (t : Table S) → Ready S slots m0 t → slots < n + taken_in S t → Right (turns S slots n t)
 
     module _ (n : ℕ) (ih : Turns n) (t : Table S) (ready : Ready S slots m0 t) (more : slots < suc n + taken_in S t) where
-      module _ (o : Open) (e : least_open S t 0 ≡ some o) (f : first_goal S t o.rank t 0 ≡ none) (r : Held S) (h : Holds t o.slot r) where
+      module _ (o : Open) (e : least_open S t 0 ≡ Some o) (f : first_goal S t o.rank t 0 ≡ None) (r : Held S) (h : Holds t o.slot r) where
         abbrev u : Table S
         u = mark S t o.slot
 
@@ -53,7 +53,7 @@ module _ (S : System) (slots : ℕ) where
         taking false c = expanding (expand S slots u r o.slot S.actions) c refl (turn_expanded S slots ready e h f laws c)
 
       -- The start's rank is not above the least open one.
-      begins : (o : Open) → least_open S t 0 ≡ some o → Le (rank_of S m0 zero_key) o.rank
+      begins : (o : Open) → least_open S t 0 ≡ Some o → Le (rank_of S m0 zero_key) o.rank
       begins o e =
           let r = least_some S t e in
           subst (Le (rank_of S m0 zero_key)) (sym r.3) (start_least S ready.inv laws r.0.key.steps o.slot r.0 r.1 refl)
@@ -61,13 +61,13 @@ module _ (S : System) (slots : ℕ) where
       -- Every turn is right.
       turn : (o : Option Open) → least_open S t 0 ≡ o → Right (turns S slots (suc n) t)
       unfolding turns
-      turn none e = rw (e, turns) (inl (ap answered (sym (exhausted_right S laws fin starts ready.inv ready.barren (least_none S t e)))))
-      turn (some o) e = goal (first_goal S t o.rank t 0) refl
+      turn None e = rw (e, turns) (inl (ap answered (sym (exhausted_right S laws fin starts ready.inv ready.barren (least_none S t e)))))
+      turn (Some o) e = goal (first_goal S t o.rank t 0) refl
         where
           goal : (p : Option (List ℕ)) → first_goal S t o.rank t 0 ≡ p → Right (turns S slots (suc n) t)
-          goal (some p) f = rw (e, turns, f)
+          goal (Some p) f = rw (e, turns, f)
               (inl (ap answered (sym (plan_right S laws starts ready.inv o.rank (past S slots ready e) (begins o e) ready.barren f fin))))
-          goal none f = let r = least_some S t e in taking o e f r.0 r.1 (S.cut r.0.hints) refl
+          goal None f = let r = least_some S t e in taking o e f r.0 r.1 (S.cut r.0.hints) refl
 
     pub turns_right : (n : ℕ) → Turns n
     turns_right zero = λ t ready more. absurd (omega (arith, taken_le S t, ready.room))
@@ -75,11 +75,11 @@ module _ (S : System) (slots : ℕ) where
 
 -- the search, by what the start is
 pub by_start : (S : System) (slots : ℕ) {o : Option S.Node} → S.start ≡ o
-    → search_in S slots ≡ elim o as (λ x. Result) [ none ↦ answered (no_plan 12) | some m ↦ elim (ltb 0 slots) [ true ↦ turns S slots (suc slots) (start_table S m) | false ↦ too_small ] ]
+    → search_in S slots ≡ elim o as (λ x. Result) [ None ↦ answered (no_plan 12) | Some m ↦ elim (ltb 0 slots) [ true ↦ turns S slots (suc slots) (start_table S m) | false ↦ too_small ] ]
 unfolding search_in
-by_start S slots e = ap (λ (o : Option S.Node). elim o as (λ x. Result) [ none ↦ answered (no_plan 12) | some m ↦ elim (ltb 0 slots) [ true ↦ turns S slots (suc slots) (start_table S m) | false ↦ too_small ] ]) e
+by_start S slots e = ap (λ (o : Option S.Node). elim o as (λ x. Result) [ None ↦ answered (no_plan 12) | Some m ↦ elim (ltb 0 slots) [ true ↦ turns S slots (suc slots) (start_table S m) | false ↦ too_small ] ]) e
 
-solve_none : (S : System) → S.start ≡ none → solve S ≡ no_plan 12
+solve_none : (S : System) → S.start ≡ None → solve S ≡ no_plan 12
 unfolding solve answer
 solve_none S e = ap (answer S) (reached_none S e)
 
@@ -87,7 +87,7 @@ solve_none S e = ap (answer S) (reached_none S e)
 pub search_right : (S : System) → Laws S → Finite S → (slots : ℕ) → (search_in S slots ≡ answered (solve S)) ⊎ ((slots < length (reached S)) × (search_in S slots ≡ too_small))
 search_right S laws fin slots = go S.start refl
   where
-    room : (m : S.Node) → S.start ≡ some m → (a : Bool) → ltb 0 slots ≡ a → Right S slots (search_in S slots)
+    room : (m : S.Node) → S.start ≡ Some m → (a : Bool) → ltb 0 slots ≡ a → Right S slots (search_in S slots)
     room m e true l = subst (Right S slots) (sym (by_start S slots e ∙ first)) (turns_right S slots laws fin e (suc slots) (start_table S m) (start_ready S slots laws m (ltb-true 0 slots l)) (omega arith))
       where
         first : (elim (ltb 0 slots) as (λ x. Result) [ true ↦ turns S slots (suc slots) (start_table S m) | false ↦ too_small ]) ≡ turns S slots (suc slots) (start_table S m)
@@ -95,5 +95,5 @@ search_right S laws fin slots = go S.start refl
     room m e false l = inr (omega (arith, start_reached S laws fin e, ltb-false), by_start S slots e ∙ rw l refl)
 
     go : (o : Option S.Node) → S.start ≡ o → Right S slots (search_in S slots)
-    go none e = inl (by_start S slots e ∙ ap answered (sym (solve_none S e)))
-    go (some m) e = room m e (ltb 0 slots) refl
+    go None e = inl (by_start S slots e ∙ ap answered (sym (solve_none S e)))
+    go (Some m) e = room m e (ltb 0 slots) refl

@@ -1,10 +1,10 @@
 -- A slot being expanded: which arrivals have been made, and how one more action changes them.
+use Rattle.std.proofs.Common.{Some}
 use mathlib.Core.Path.{◌≡◌, sym, ap, ◌∙◌, subst}
 use Prim.Native.Nat.{ℕ, suc, ◌<◌}
 use native.Mathlib.Omega.{arith}
 use native.Mathlib.Decide.{ℕ_discrete}
 use mathlib.Core.Bool.{true, false, true≢false}
-use mathlib.Core.Option.{some}
 use mathlib.Core.Logic.{◌⊎◌, inl, inr}
 use Rattle.model.specs.exploration.Key.{Le}
 use Rattle.model.specs.exploration.System.{System}
@@ -80,7 +80,7 @@ module _ (S : System) where
 
   -- ---- one action more
 
-  module _ {m0 : S.Node} {t : Table S} {i : ℕ} {q : Held S} {c : ℕ} (x : Expanding m0 t i q c) (b : c < S.actions) {n : S.Node} (leads : S.step q.node c ≡ some n) where
+  module _ {m0 : S.Node} {t : Table S} {i : ℕ} {q : Held S} {c : ℕ} (x : Expanding m0 t i q c) (b : c < S.actions) {n : S.Node} (leads : S.step q.node c ≡ Some n) where
     -- what action c leads to
     abbrev pub arrival : Entry S
     arrival = To S (entry S t i q) n c
@@ -119,6 +119,6 @@ module _ (S : System) where
           go (yes e) (no d) = inl (w, λ f. omega (arith, z.1 e))
           go (yes e) (yes d) =
               let s : z.0.source ≡ q = source_is x w e in
-              let l : S.step q.node c ≡ some y.node = sym (λ k. S.step (s k).node (d k)) ∙ z.0.leads in
+              let l : S.step q.node c ≡ Some y.node = sym (λ k. S.step (s k).node (d k)) ∙ z.0.leads in
               let m : y.node ≡ n = cc in
               inr (w.is ∙ (λ k. To S (entry S t (e k) (s k)) (m k) (d k)))

@@ -1,17 +1,18 @@
 -- What the slots of a table hold, and a table with one slot put anew.
+use Rattle.std.proofs.Common.{Some}
 use mathlib.Core.Path.{◌≡◌, refl, sym, ap, ◌∙◌, subst}
 use Prim.Native.Nat.{ℕ, zero, suc, ◌<◌}
 use native.Mathlib.Omega.{arith}
 use native.Mathlib.Decide.{ℕ_discrete}
-use mathlib.Core.Option.{some}
 use mathlib.Core.List.{List, [], ◌∷◌, ◌++◌}
-use lib.ListN.{length, get_elem?, set}
+use lib.ListN.{length, set}
+use Rattle.std.specs.List.{slice_get}
 use Rattle.model.proofs.exploration.Each.{All}
 
 module _ {A : Type 0} where
   -- slot i of the table holds r
   abbrev pub Holds : List A → ℕ → A → Type 0
-  Holds t i r = get_elem? t i ≡ some r
+  Holds t i r = slice_get t i ≡ Some r
 
   pub holds_one : (t : List A) (i : ℕ) {r q : A} → Holds t i r → Holds t i q → r ≡ q
   holds_one t i p q = cc
@@ -29,7 +30,7 @@ module _ {A : Type 0} where
   -- u is t with v in slot j, which may be the first slot after t
   pub record Put (t u : List A) (j : ℕ) (v : A) : Type 0 where
     pub new : Holds u j v
-    pub old : (s : ℕ) → (s ≡ j → ⊥) → get_elem? u s ≡ get_elem? t s
+    pub old : (s : ℕ) → (s ≡ j → ⊥) → slice_get u s ≡ slice_get t s
 
   -- What the new content has, and the old of every other slot, every slot's content has.
   pub put_each : {t u : List A} {j : ℕ} {v : A} → Put t u j v → (Q : ℕ → A → Type 0) → Q j v → ((s : ℕ) (r : A) → (s ≡ j → ⊥) → Holds t s r → Q s r)
@@ -46,7 +47,7 @@ module _ {A : Type 0} where
   put_set [] j v l = absurd (omega arith)
   put_set (x ∷ t) zero v l = record { new = refl; old = go }
     where
-      go : (s : ℕ) → (s ≡ 0 → ⊥) → get_elem? (v ∷ t) s ≡ get_elem? (x ∷ t) s
+      go : (s : ℕ) → (s ≡ 0 → ⊥) → slice_get (v ∷ t) s ≡ slice_get (x ∷ t) s
       go zero n = absurd (n refl)
       go (suc s) n = refl
   put_set (x ∷ t) (suc j) v l = go (put_set t j v (omega arith))
@@ -54,14 +55,14 @@ module _ {A : Type 0} where
       go : Put t (set t j v) j v → Put (x ∷ t) (set (x ∷ t) (suc j) v) (suc j) v
       go p = record { new = p.new; old = old }
         where
-          old : (s : ℕ) → (s ≡ suc j → ⊥) → get_elem? (set (x ∷ t) (suc j) v) s ≡ get_elem? (x ∷ t) s
+          old : (s : ℕ) → (s ≡ suc j → ⊥) → slice_get (set (x ∷ t) (suc j) v) s ≡ slice_get (x ∷ t) s
           old zero n = refl
           old (suc s) n = p.old s (λ e. n (ap suc e))
 
   pub put_append : (t : List A) (v : A) → Put t (t ++ (v ∷ [])) (length t) v
   put_append [] v = record { new = refl; old = go }
     where
-      go : (s : ℕ) → (s ≡ 0 → ⊥) → get_elem? (v ∷ []) s ≡ get_elem? {A = A} [] s
+      go : (s : ℕ) → (s ≡ 0 → ⊥) → slice_get (v ∷ []) s ≡ slice_get {X = A} [] s
       go zero n = absurd (n refl)
       go (suc s) n = refl
   put_append (x ∷ t) v = go (put_append t v)
@@ -69,7 +70,7 @@ module _ {A : Type 0} where
       go : Put t (t ++ (v ∷ [])) (length t) v → Put (x ∷ t) ((x ∷ t) ++ (v ∷ [])) (length (x ∷ t)) v
       go p = record { new = p.new; old = old }
         where
-          old : (s : ℕ) → (s ≡ suc (length t) → ⊥) → get_elem? ((x ∷ t) ++ (v ∷ [])) s ≡ get_elem? (x ∷ t) s
+          old : (s : ℕ) → (s ≡ suc (length t) → ⊥) → slice_get ((x ∷ t) ++ (v ∷ [])) s ≡ slice_get (x ∷ t) s
           old zero n = refl
           old (suc s) n = p.old s (λ e. n (ap suc e))
 

@@ -1,9 +1,9 @@
 -- The records of a table up to a rank solve the equations of exploration up to it.
+use Rattle.std.proofs.Common.{Some}
 use mathlib.Core.Path.{◌≡◌, refl, sym, ap, ◌∙◌, subst}
 use Prim.Native.Nat.{ℕ, zero, suc}
 use native.Mathlib.Omega.{arith}
 use mathlib.Core.Bool.{Bool, true, false}
-use mathlib.Core.Option.{some}
 use mathlib.Core.Logic.{◌⊎◌, inl, inr, ◌↔◌}
 use Rattle.model.specs.exploration.Key.{Key, zero_key, extend, Le, Lt}
 use Rattle.model.specs.exploration.System.{System, rank_of}
@@ -119,7 +119,7 @@ module _ (S : System) where
 
     -- Slot 0 is the start's.
     pub start_node : {n : S.Node} (r : Held S) → Holds t 0 r → r.node ≡ n → Starts S n
-    start_node r h e = starts ∙ ap some (sym inv.begun.2.0 ∙ ap (λ (z : Held S). z.node) (holds_one t 0 inv.begun.1 h) ∙ e)
+    start_node r h e = starts ∙ ap Some (sym inv.begun.2.0 ∙ ap (λ (z : Held S). z.node) (holds_one t 0 inv.begun.1 h) ∙ e)
 
     solve_start : {n : S.Node} → Starts S n → Up t B n zero_key S.start_hints
     solve_start {n} s =

@@ -1,9 +1,9 @@
 -- What holds between two turns: it holds of the start table, and each turn that takes a slot keeps it.
+use Rattle.std.proofs.Common.{None, Some}
 use mathlib.Core.Path.{◌≡◌, refl, sym, ap, ◌∙◌, subst}
 use Prim.Native.Nat.{ℕ, zero, suc, ◌≤◌, ◌<◌}
 use native.Mathlib.Omega.{arith}
 use mathlib.Core.Bool.{true, false, true≢false}
-use mathlib.Core.Option.{none, some}
 use lib.ListN.{length, length-set, set}
 use Rattle.model.specs.exploration.Key.{Key, zero_key, Le}
 use Rattle.model.specs.exploration.System.{System}
@@ -60,7 +60,7 @@ module _ (S : System) (slots : ℕ) where
 
   -- ---- a slot taken
 
-  module _ {m0 : S.Node} {t : Table S} (ready : Ready m0 t) {o : Open} (least : least_open S t 0 ≡ some o) where
+  module _ {m0 : S.Node} {t : Table S} (ready : Ready m0 t) {o : Open} (least : least_open S t 0 ≡ Some o) where
     abbrev u : Table S
     u = mark S t o.slot
 
@@ -68,7 +68,7 @@ module _ (S : System) (slots : ℕ) where
     pub past : (i : ℕ) (r : Held S) → Holds t i r → r.taken ≡ false → Le o.rank (rank_in S r)
     past = (least_some S t least).4
 
-    module _ {r : Held S} (held : Holds t o.slot r) (no_goal : first_goal S t o.rank t 0 ≡ none) (laws : Laws S) where
+    module _ {r : Held S} (held : Holds t o.slot r) (no_goal : first_goal S t o.rank t 0 ≡ None) (laws : Laws S) where
       is_least : (least_some S t least).0 ≡ r
       is_least = holds_one t o.slot (least_some S t least).1 held
 

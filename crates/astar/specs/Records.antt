@@ -1,9 +1,9 @@
 -- The records that a search holds, in order of arrival: one for each node, in the slot of that number.
-use Rattle.std.specs.Prelude.{ℕ, zero, suc, Bool}
+use Rattle.std.specs.Prelude.{ℕ, zero, suc, Bool, Option, None, Some}
 use Rattle.std.proofs.Math.Bool.{true, false}
-use Rattle.std.proofs.Math.Option.{Option, none, some}
 use mathlib.Core.List.{List, [], ◌∷◌, ◌++◌}
-use Rattle.std.proofs.Math.ListN.{get_elem?, set}
+use Rattle.std.proofs.Math.ListN.{set}
+use Rattle.std.specs.List.{slice_get}
 use Rattle.model.specs.exploration.Key.{Key, less}
 use Rattle.model.specs.exploration.System.{System, rank_of}
 
@@ -35,18 +35,18 @@ module _ (S : System) where
 
   -- the slot of a node, the slots being numbered from k on
   unfoldable pub find : S.Node → Table → ℕ → Option ℕ
-  find n [] k = none
-  find n (r ∷ rs) k = elim (S.same n r.node) [ true ↦ some k | false ↦ find n rs (suc k) ]
+  find n [] k = None
+  find n (r ∷ rs) k = elim (S.same n r.node) [ true ↦ Some k | false ↦ find n rs (suc k) ]
 
   -- the first open slot of the least rank
   unfoldable pub least_open : Table → ℕ → Option Open
   unfolding less
-  least_open [] k = none
+  least_open [] k = None
   least_open (r ∷ rs) k = elim r.taken [
     | true ↦ least_open rs (suc k)
     | false ↦ elim (least_open rs (suc k)) [
-      | none ↦ some (record { slot = k; rank = rank_in r })
-      | some o ↦ elim (less o.rank (rank_in r)) [ true ↦ some o | false ↦ some (record { slot = k; rank = rank_in r }) ]
+      | None ↦ Some (record { slot = k; rank = rank_in r })
+      | Some o ↦ elim (less o.rank (rank_in r)) [ true ↦ Some o | false ↦ Some (record { slot = k; rank = rank_in r }) ]
     ]
   ]
 
@@ -56,9 +56,9 @@ module _ (S : System) where
 
   unfoldable pub mark : Table → ℕ → Table
   unfolding take-it
-  mark t i = elim (get_elem? t i) [ none ↦ t | some r ↦ set t i (take-it r) ]
+  mark t i = elim (slice_get t i) [ None ↦ t | Some r ↦ set t i (take-it r) ]
 
   -- the actions that lead to a slot, found from parent to parent, n of them
   unfoldable pub path_of : Table → ℕ → ℕ → List ℕ
   path_of t zero i = []
-  path_of t (suc n) i = elim (get_elem? t i) [ none ↦ [] | some r ↦ path_of t n r.parent ++ (r.action ∷ []) ]
+  path_of t (suc n) i = elim (slice_get t i) [ None ↦ [] | Some r ↦ path_of t n r.parent ++ (r.action ∷ []) ]

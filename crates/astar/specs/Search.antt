@@ -1,10 +1,9 @@
 -- The search, in a table of a given number of slots.
+use Rattle.std.specs.Prelude.{Bool, ◌&&◌, ◌||◌, length, set, ltb, Option, None, Some}
 use Prim.Native.Nat.{ℕ, zero, suc}
-use Rattle.std.specs.Prelude.{Bool, ◌&&◌, ◌||◌, length, set, ltb}
 use Rattle.std.proofs.Math.Bool.{true, false, not}
-use Rattle.std.proofs.Math.Option.{Option, none, some}
 use mathlib.Core.List.{List, [], ◌∷◌, ◌++◌}
-use Rattle.std.proofs.Math.ListN.{get_elem?}
+use Rattle.std.specs.List.{slice_get}
 use Rattle.model.specs.exploration.Key.{Key, zero_key, extend, less, same_key, earlier, first_of}
 use Rattle.model.specs.exploration.System.{System}
 use Rattle.model.specs.exploration.Equations.{Answer, plan, no_plan}
@@ -55,11 +54,11 @@ module _ (S : System) where
   unfoldable pub arrive : ℕ → Table S → S.Node → Key → S.Hints → ℕ → ℕ → Filled
   unfolding find relaxed
   arrive slots t n k h i a = elim (find S n t 0) [
-    | none ↦ elim (ltb (length t) slots) [
+    | None ↦ elim (ltb (length t) slots) [
       | true ↦ goes_on (t ++ (record { node = n; key = k; hints = h; parent = i; action = a; taken = false } ∷ []))
       | false ↦ full
     ]
-    | some j ↦ elim (get_elem? t j) [ none ↦ goes_on t | some r ↦ goes_on (set t j (relaxed t r k h i a)) ]
+    | Some j ↦ elim (slice_get t j) [ None ↦ goes_on t | Some r ↦ goes_on (set t j (relaxed t r k h i a)) ]
   ]
 
   -- ---- one node expanded
@@ -68,8 +67,8 @@ module _ (S : System) where
   unfoldable pub follow : ℕ → Table S → Held S → ℕ → ℕ → Filled
   unfolding arrive extend
   follow slots t r i a = elim (S.step r.node a) [
-    | none ↦ goes_on t
-    | some n ↦ arrive slots t n (extend r.key (S.cost a)) (S.carry r.hints n a) i a
+    | None ↦ goes_on t
+    | Some n ↦ arrive slots t n (extend r.key (S.cost a)) (S.carry r.hints n a) i a
   ]
 
   -- the actions below c, in order
@@ -83,12 +82,12 @@ module _ (S : System) where
   -- the first path among the uncut goal nodes of key k; the slots are numbered from i on, and t is the whole table
   unfoldable pub first_goal : Table S → Key → Table S → ℕ → Option (List ℕ)
   unfolding same_key first_of path_of
-  first_goal t k [] i = none
+  first_goal t k [] i = None
   first_goal t k (r ∷ rs) i = elim (same_key r.key k && not (S.cut r.hints) && S.goal r.node) [
     | false ↦ first_goal t k rs (suc i)
     | true ↦ elim (first_goal t k rs (suc i)) [
-      | none ↦ some (path_of S t k.steps i)
-      | some p ↦ some (first_of (path_of S t k.steps i) p)
+      | None ↦ Some (path_of S t k.steps i)
+      | Some p ↦ Some (first_of (path_of S t k.steps i) p)
     ]
   ]
 
@@ -107,12 +106,12 @@ module _ (S : System) where
   unfolding least_open mark expand first_goal exhausted
   turns slots zero t = too_small
   turns slots (suc n) t = elim (least_open S t 0) [
-    | none ↦ answered (exhausted t)
-    | some o ↦ elim (first_goal t o.rank t 0) [
-      | some p ↦ answered (plan o.rank.cost p)
-      | none ↦ elim (get_elem? t o.slot) [
-        | none ↦ too_small
-        | some r ↦ elim (S.cut r.hints) [
+    | None ↦ answered (exhausted t)
+    | Some o ↦ elim (first_goal t o.rank t 0) [
+      | Some p ↦ answered (plan o.rank.cost p)
+      | None ↦ elim (slice_get t o.slot) [
+        | None ↦ too_small
+        | Some r ↦ elim (S.cut r.hints) [
           | true ↦ turns slots n (mark S t o.slot)
           | false ↦ elim (expand slots (mark S t o.slot) r o.slot S.actions) [ full ↦ too_small | goes_on u ↦ turns slots n u ]
         ]
@@ -129,6 +128,6 @@ module _ (S : System) where
   unfoldable pub search_in : ℕ → Result
   unfolding turns start_table
   search_in slots = elim S.start [
-    | none ↦ answered (no_plan 12)
-    | some m ↦ elim (ltb 0 slots) [ true ↦ turns slots (suc slots) (start_table m) | false ↦ too_small ]
+    | None ↦ answered (no_plan 12)
+    | Some m ↦ elim (ltb 0 slots) [ true ↦ turns slots (suc slots) (start_table m) | false ↦ too_small ]
   ]

@@ -1,11 +1,7 @@
 -- Bits of complements and of shifted numbers, over the width.
-use mathlib.Core.Path.{◌≡◌, refl, sym, ap, ◌∙◌}
-use Prim.Native.Nat.{ℕ, zero, suc, ◌+◌, ◌-◌, ◌*◌, ◌/◌, ◌%◌, ◌^◌, ◌≤◌, ◌<◌}
-use native.Mathlib.Nat.{pow-suc, mul_assoc, add-mul-div_right, div-eq_of_lt, lt_of_lt_of_le}
-use native.Mathlib.Omega.{arith}
-use mathlib.Core.Bool.{Bool, true, false, not}
-use lib.Dec.{eqb}
-use lib.Pow.{pow_pos, pow-add, pow_mono, shr-shr, shl-shr, field, mod-mod-pow}
+use Rattle.std.proofs.Common.{◌≡◌, refl, sym, ap, ◌∙◌, ℕ, zero, suc, ◌+◌, ◌-◌, ◌*◌, ◌/◌, ◌%◌, ◌^◌, ◌≤◌, ◌<◌, Bool, true, false, not, eqb, arith}
+use Rattle.std.proofs.Math.Nat.{pow-suc, mul_assoc, lt_of_lt_of_le, add-mul-div_right, div-eq_of_lt}
+use Rattle.std.proofs.Math.Pow.{pow_pos, pow-add, pow_mono, shr-shr, shl-shr, field, mod-mod-pow}
 use Rattle.model.specs.Bits.{bit, digit, of_bits}
 use Rattle.model.proofs.bits.Bits.{of_bits_lt, bit_of_bits, of_bits_bit}
 
@@ -22,7 +18,8 @@ not_of_bits (suc n) f = go (f n) (not_of_bits n f) (of_bits_lt n f)
 
 pub bit_not : (n x k : ℕ) → x < 2 ^ n → k < n → bit ((2 ^ n - 1) - x) k ≡ not (bit x k)
 bit_not n x k hx hk =
-    ap (λ (y : ℕ). bit ((2 ^ n - 1) - y) k) (sym (of_bits_bit n x hx)) ∙ ap (λ (y : ℕ). bit y k) (not_of_bits n (bit x)) ∙ bit_of_bits n (λ i. not (bit x i)) k hk
+    ap (λ (y : ℕ). bit ((2 ^ n - 1) - y) k) (sym (of_bits_bit n x hx)) ∙ ap (λ (y : ℕ). bit y k) (not_of_bits n (bit x))
+    ∙ bit_of_bits n (λ i. not (bit x i)) k hk
 
 -- a number below 2 ^ n has no bit n or above
 pub bit_high : (n x k : ℕ) → x < 2 ^ n → n ≤ k → bit x k ≡ false

@@ -1,3 +1,4 @@
 pub mod BitLaws
 pub mod TableLaws
+pub mod SetLaws
 pub mod Substitution

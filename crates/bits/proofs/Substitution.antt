@@ -1,14 +1,10 @@
 -- Tables put for all n unknowns one after the other, the last first, are put for all at once.
-use mathlib.Core.Path.{◌≡◌, refl, sym, ap, ◌∙◌}
-use Prim.Native.Nat.{ℕ, zero, suc, ◌+◌, ◌-◌, ◌*◌, ◌^◌, ◌≤◌, ◌<◌}
-use native.Mathlib.Nat.{pow-suc}
-use native.Mathlib.Omega.{arith}
-use native.Mathlib.Decide.{dec_lt, ℕ_discrete}
-use lib.Pow.{pow_pos}
-use mathlib.Core.Bool.{Bool, true, false, not, ◌&&◌, and-false, or-false, not-not}
-use mathlib.Core.List.{List}
-use lib.ListN.{get_or}
-use lib.Bits.{bit_and, or_disjoint, and_le_r}
+use Rattle.std.proofs.Common.{◌≡◌, refl, sym, ap, ◌∙◌, ℕ, zero, suc, ◌+◌, ◌-◌, ◌*◌, ◌^◌, ◌≤◌, ◌<◌, Bool, true, false, not, ◌&&◌, List, get_or, arith}
+use Rattle.std.proofs.Math.Decide.{dec_lt, ℕ_discrete}
+use Rattle.std.proofs.Math.Nat.{pow-suc}
+use Rattle.std.proofs.Math.Pow.{pow_pos}
+use Rattle.std.proofs.Math.Bool.{and-false, or-false, not-not}
+use Rattle.std.specs.Int.Bits.{bit_and, or_disjoint, and_le_r}
 use Rattle.model.specs.Bits.{bit}
 use Rattle.model.proofs.bits.Bits.{of_bits_lt, bit_of_bits, bits_ext, bit_suc, bit_zero}
 use Rattle.model.proofs.bits.Bitwise.{bit_and_lem, bit_or_lem}
@@ -114,7 +110,8 @@ module _ (n : ℕ) (t : List ℕ) (k : ℕ) (hk : k < 2 ^ n) where
   down_put zero j h = absurd (omega arith)
   down_put (suc m) j h = go (ℕ_discrete j m) (down_put m j)
     where
-      go : Dec (j ≡ m) → (j < m → bit (setting_down m t k) j ≡ bit (get_or t j 0) k) → bit (with_bit (setting_down m t k) m (bit (get_or t m 0) k)) j ≡ bit (get_or t j 0) k
+      go : Dec (j ≡ m) → (j < m → bit (setting_down m t k) j ≡ bit (get_or t j 0) k)
+          → bit (with_bit (setting_down m t k) m (bit (get_or t m 0) k)) j ≡ bit (get_or t j 0) k
       go (yes e) ih = rw e (with_here (setting_down m t k) m _)
       go (no ne) ih = with_there (setting_down m t k) m _ j ne ∙ ih (omega arith)
 

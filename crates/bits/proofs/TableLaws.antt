@@ -1,13 +1,12 @@
 -- Laws of truth tables of n unknowns: one unknown made true or false, or replaced by a table.
-use mathlib.Core.Path.{◌≡◌, refl, sym, ap, ap₂, ◌∙◌}
-use Prim.Native.Nat.{ℕ, suc, ◌+◌, ◌-◌, ◌*◌, ◌/◌, ◌%◌, ◌^◌, ◌≤◌, ◌<◌}
-use native.Mathlib.Nat.{pow-suc, add-mul-div_right, add_comm, mod-lt}
-use native.Mathlib.Omega.{arith}
-use native.Mathlib.Decide.{dec_lt}
-use mathlib.Core.Bool.{Bool, true, false, not, ◌&&◌, ◌||◌, and-false, and-true, or-false, and_comm, false≢true}
-use lib.Bits.{bit_and, bit_or, or_lt}
-use lib.Pow.{pow_pos, pow-add, shr_lt, shr_mono, shr_le, shl-shr, ones_sub-lt}
+use Rattle.std.proofs.Common.{◌≡◌, refl, sym, ap, ap₂, ◌∙◌, ℕ, suc, ◌+◌, ◌-◌, ◌*◌, ◌/◌, ◌%◌, ◌^◌, ◌≤◌, ◌<◌, Bool, true, false, not, ◌&&◌, ◌||◌, bit_and, bit_or}
+use Rattle.std.proofs.Common.{arith}
+use Rattle.std.proofs.Math.Decide.{dec_lt}
 use borrow.Author.Tests.{eqb-false}
+use Rattle.std.proofs.Math.Bool.{and-false, and-true, or-false, and_comm, false≢true}
+use Rattle.std.proofs.Math.Nat.{pow-suc, add_comm, mod-lt, add-mul-div_right}
+use Rattle.std.proofs.Math.Pow.{pow_pos, pow-add, shr_lt, shr_mono, shr_le, shl-shr, ones_sub-lt}
+use Rattle.std.specs.Int.Bits.{or_lt}
 use Rattle.model.specs.Bits.{bit}
 use Rattle.model.proofs.bits.Bits.{of_bits_lt, bit_of_bits, bits_ext}
 use Rattle.model.proofs.bits.Bitwise.{bit_and_lem, bit_or_lem, and_lt}
@@ -149,7 +148,8 @@ select_law n i p r hp = bits_ext (2 ^ n) _ _
     go k true = or-false (bit r (with_bit k i true))
     go k false = refl
 
-    at_bit : (k : ℕ) → k < 2 ^ n → bit (bit_or (bit_and p (fixed n i true r)) (bit_and ((2 ^ (2 ^ n) - 1) - p) (fixed n i false r))) k ≡ bit r (with_bit k i (bit p k))
+    at_bit : (k : ℕ) → k < 2 ^ n
+        → bit (bit_or (bit_and p (fixed n i true r)) (bit_and ((2 ^ (2 ^ n) - 1) - p) (fixed n i false r))) k ≡ bit r (with_bit k i (bit p k))
     at_bit k h =
         bit_or_lem (bit_and p (fixed n i true r)) (bit_and ((2 ^ (2 ^ n) - 1) - p) (fixed n i false r)) k
         ∙ ap₂ ◌||◌ (bit_and_lem p (fixed n i true r) k ∙ ap (λ (b : Bool). bit p k && b) (bit_of_bits (2 ^ n) _ k h))

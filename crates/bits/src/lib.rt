@@ -1,7 +1,7 @@
-// Truth tables of six unknowns in 64 bits, all settings at once.
+// Sets of numbers below 64, and truth tables of six unknowns for all settings at once, each in 64 bits.
 #![tactic(auto)]
 
-ghost use Rattle.std.specs.Prelude.{◌≡◌, true, false, ◌<◌, ◌^◌};
+ghost use Rattle.std.specs.Prelude.{◌≡◌, ℕ, ◌≤◌, ◌<◌, ◌^◌};
 ghost use Rattle.model.specs.logic.Parts.{most_parts};
 ghost use Rattle.model.specs.Bits.{bit};
 ghost use Rattle.bits.specs.Tables.{unknown, everywhere, fixed, selected, Upward, substituted};
@@ -16,11 +16,26 @@ pub fn bit_at(x: u64, i: u8) -> bool
     (x >> i) % 2 == 1
 }
 
+// The set of those below n of which f holds, one bit each. The last one's bit comes first, so that each next one is bit 0.
+#[tactic(auto, using(crate::proofs::SetLaws::sets))]
+pub fn set_of<F: Fn(usize) -> bool>(n: usize, f: F) -> u64
+    requires few { n ≤ 64 }
+    requires callable { (i : ℕ) → i < n → F.pre f i }
+    ensures below { result < 2 ^ n }
+    ensures bits { (i : ℕ) → i < n → F.post f i (bit result i) }
+{
+    let mut set = 0;
+    for i in (0..n).rev() {
+        set = u64::from(f(i)) + 2 * set;
+    }
+    set
+}
+
 // The table that is the same at every setting.
 pub fn everywhere(b: bool) -> u64
     ensures { result ≡ everywhere most_parts b }
 {
-    if b { 0xffff_ffff_ffff_ffff } else { 0 }
+    if b { u64::MAX } else { 0 }
 }
 
 // The table of an unknown.
@@ -38,37 +53,19 @@ pub fn unknown(i: usize) -> u64
     }
 }
 
-// How many bits the settings that differ in an unknown alone lie apart.
-fn apart(i: usize) -> u64
+// The table r where unknown i has a value. The settings that differ in it alone lie 2 ^ i bits apart.
+fn fixed(r: u64, i: usize, value: bool) -> u64
     requires { i < most_parts }
-    ensures { (result ≡ 2 ^ i) × (result < 64) }
+    ensures { result ≡ fixed most_parts i value r }
 {
-    match i {
-        0 => 1,
-        1 => 2,
-        2 => 4,
-        3 => 8,
-        4 => 16,
-        _ => 32,
+    let apart = 1u32 << i;
+    if value {
+        let t = r & unknown(i);
+        t | (t >> apart)
+    } else {
+        let f = r & !unknown(i);
+        f | (f << apart)
     }
-}
-
-// The table r where unknown i is true.
-fn where_true(r: u64, i: usize) -> u64
-    requires { i < most_parts }
-    ensures { result ≡ fixed most_parts i true r }
-{
-    let t = r & unknown(i);
-    t | (t >> apart(i))
-}
-
-// The table r where unknown i is false.
-fn where_false(r: u64, i: usize) -> u64
-    requires { i < most_parts }
-    ensures { result ≡ fixed most_parts i false r }
-{
-    let f = r & !unknown(i);
-    f | (f << apart(i))
 }
 
 // The table r with the table p put for unknown i.
@@ -76,7 +73,7 @@ pub fn select(r: u64, p: u64, i: usize) -> u64
     requires { i < most_parts }
     ensures { result ≡ selected most_parts i p r }
 {
-    (p & where_true(r, i)) | (!p & where_false(r, i))
+    (p & fixed(r, i, true)) | (!p & fixed(r, i, false))
 }
 
 // The table r with each unknown replaced by its own table. A table has only the unknowns from its own number on, so replacing from the last
@@ -85,10 +82,9 @@ pub fn substitute(r: u64, t: [u64; MOST_PARTS]) -> u64
     requires { Upward most_parts t }
     ensures { result ≡ substituted most_parts t r }
 {
-    let r5 = select(r, t[5], 5);
-    let r4 = select(r5, t[4], 4);
-    let r3 = select(r4, t[3], 3);
-    let r2 = select(r3, t[2], 2);
-    let r1 = select(r2, t[1], 1);
-    select(r1, t[0], 0)
+    let mut left = r;
+    for i in (0..MOST_PARTS).rev() {
+        left = select(left, t[i], i);
+    }
+    left
 }

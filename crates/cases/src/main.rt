@@ -9,12 +9,6 @@ ghost use Rattle.std.specs.Prelude.{◌≡◌, ◌+◌, ◌≤◌, ◌<◌, IfOk
 
 use std::io;
 
-fn wide(x: u8) -> usize
-    ensures { (result ≡ x) × (result < 256) }
-{
-    x as usize
-}
-
 // A search with a table of 65,536 bytes.
 fn search(
     to: &impl Print,
@@ -24,23 +18,15 @@ fn search(
     plan: &mut [u8],
 ) -> io::Result<()> {
     let mut table = [0u8; 65536];
-    let mut told = [0u64; 3];
-    let part = search::planned(job, needs, rights, &mut table, plan, &mut told);
-    report::planned(to, told, part)
+    let given = search::planned(job, needs, rights, &mut table, plan);
+    report::planned(to, given.result, given.steps)
 }
 
 // A search with a plan buffer of 2 or 3 bytes, or of 64.
 fn search_in(to: &impl Print, job: &[u8], needs: &[u8], rights: u8, room: usize) -> io::Result<()> {
-    if room == 2 {
-        let mut plan = [255u8; 2];
-        search(to, job, needs, rights, &mut plan)
-    } else if room == 3 {
-        let mut plan = [255u8; 3];
-        search(to, job, needs, rights, &mut plan)
-    } else {
-        let mut plan = [255u8; 64];
-        search(to, job, needs, rights, &mut plan)
-    }
+    let room = if room == 2 || room == 3 { room } else { 64 };
+    let mut plan = [255u8; 64];
+    search(to, job, needs, rights, &mut plan[..room])
 }
 
 fn write_back(to: &impl Print, rule: &[u8], facts: u8, actions: u8) -> io::Result<()> {
@@ -54,7 +40,7 @@ fn size_at(input: &[u8], at: usize) -> usize
     requires { at + 2 ≤ length input.now }
     ensures { result < 65536 }
 {
-    wide(input[at]) + wide(input[at + 1]) * 256
+    words::get::<2>(input, at) as usize
 }
 
 // A search, and the position of the next case, as `run` gives it.
@@ -63,12 +49,12 @@ fn search_case(to: &impl Print, input: &[u8], at: usize) -> io::Result<usize>
     ensures { IfOk result (λ next. (at < next) × (next ≤ length input.now)) }
 {
     let from = at + 6;
-    let listed = from + wide(input[at + 2]);
+    let listed = from + usize::from(input[at + 2]);
     let end = listed + size_at(input, at + 4);
     if input.len() < end {
         return Ok(input.len());
     }
-    let room = wide(input[at + 1]);
+    let room = usize::from(input[at + 1]);
     search_in(
         to,
         &input[listed..end],
@@ -85,8 +71,8 @@ fn read_through_case(to: &impl Print, input: &[u8], at: usize) -> io::Result<usi
     ensures { IfOk result (λ next. (at < next) × (next ≤ length input.now)) }
 {
     let from = at + 6;
-    let listed = from + wide(input[at + 2]);
-    let middle = listed + wide(input[at + 1]);
+    let listed = from + usize::from(input[at + 2]);
+    let middle = listed + usize::from(input[at + 1]);
     let end = middle + size_at(input, at + 4);
     if input.len() < end {
         return Ok(input.len());
@@ -103,8 +89,8 @@ fn write_back_case(to: &impl Print, input: &[u8], at: usize) -> io::Result<usize
     requires { at + 6 ≤ length input.now }
     ensures { IfOk result (λ next. (at < next) × (next ≤ length input.now)) }
 {
-    let listed = at + 6 + wide(input[at + 2]);
-    let end = listed + wide(input[at + 1]);
+    let listed = at + 6 + usize::from(input[at + 2]);
+    let end = listed + usize::from(input[at + 1]);
     if input.len() < end {
         return Ok(input.len());
     }
@@ -129,6 +115,7 @@ fn run(to: &impl Print, input: &[u8], at: usize) -> io::Result<usize>
 
 fn run_all(to: &impl Print, input: &[u8]) -> io::Result<()> {
     let mut at = 0;
+    // A case tells how long it is, so the positions are no range.
     while at < input.len() {
         at = run(to, input, at)?;
     }

@@ -8,9 +8,8 @@ use std::io;
 fn plan(to: &impl Print, job: &[u8], needs: &[u8]) -> io::Result<()> {
     let mut table = [0u8; 65536];
     let mut steps = [0u8; 1024];
-    let mut told = [0u64; 3];
-    let part = search::planned(job, needs, 0, &mut table, &mut steps, &mut told);
-    report::planned(to, told, part)
+    let given = search::planned(job, needs, 0, &mut table, &mut steps);
+    report::planned(to, given.result, given.steps)
 }
 
 // Lends a zero for each step as the list of needed rights, so that every step may be used; fewer than four bytes are no job, and are refused before
@@ -19,6 +18,6 @@ fn main(rt: HostRuntime) -> io::Result<()> {
     let mut job = [0u8; 8192];
     let n = input::read_full(&mut rt.stdin(), &mut job)?;
     let needs = [0u8; 256];
-    let steps = access::wide(access::action_count(&job));
+    let steps = usize::from(access::action_count(&job));
     plan(&rt, &job[..n], &needs[..steps])
 }

@@ -1,4 +1,6 @@
 -- Demand 3 holds.
+use Rattle.std.proofs.Common.{Ok, Err}
+use Rattle.model.specs.Results.{planned, Searched}
 use mathlib.Core.Path.{◌≡◌, refl, sym, ap, ◌∙◌, subst}
 use mathlib.Core.Bool.{Bool, true, false}
 use mathlib.Core.Logic.{◌⊎◌, inl, inr}
@@ -10,11 +12,7 @@ use lib.Dec.{leb}
 use lib.ListN.{length, take, drop}
 use lib.Seq.{take_at, drop_at}
 use borrow.Author.Tests.{leb-true}
-use Rattle.model.specs.declared.Refusal.{Refusal}
-use Rattle.model.specs.declared.Verdict.TheVariants.{Bad}
-use Rattle.model.specs.declared.Searched.{Searched}
-use Rattle.model.specs.declared.Searched.TheVariants.{Planned, Refused}
-use Rattle.model.specs.Verdict.{refusal}
+use Rattle.model.specs.Refusal.{Refusal, refusal}
 use Rattle.model.specs.job.Job.{Job}
 use Rattle.model.specs.job.Layout.{job_of}
 use Rattle.model.specs.job.Rights.{restricted}
@@ -32,9 +30,8 @@ use Rattle.model.proofs.calls.CallLaws.{call_proper, call_right}
 use Rattle.model.proofs.calls.Ways.{Way, not_taken, none, whole, short, small, way}
 use Rattle.demands.specs.Demand1.{Taken, Between}
 use Rattle.demands.specs.Demand2.{AllowedPlan, Bytes}
-use Rattle.demands.specs.Demand3.{NoPlan, Other, IsPlan, Handed, Told, Result}
-use Rattle.demands.specs.Demand3.{plan_handed, table_small, some_cut, none_cut, plan_longer, AnswersJob, PartIs}
-use Rattle.demands.proofs.Results.{plan_not_none, planned_not_refused, refused_not_planned, same_refused}
+use Rattle.demands.specs.Demand3.{NoPlan, Other, IsPlan, Handed, Told, Result, plan_handed, table_small, some_cut, none_cut, plan_longer, AnswersJob, PartIs}
+use Rattle.demands.proofs.Results.{same_planned, plan_not_none, ok_not_err, err_not_ok, same_err}
 use Rattle.demands.proofs.Numbered.{call_numbered}
 use Rattle.demands.proofs.CostSums.{cost_at_most}
 use Rattle.demands.proofs.ReadingThrough.{allowed_is_plan}
@@ -50,11 +47,11 @@ module _ (call : Call) (table buffer : List ℕ) where
 
   -- ---- results that are the same
 
-  same_number : {k x p q : ℕ} → Refused (refusal k p) ≡ Refused (refusal x q) → k ≡ x
-  same_number {k} {x} {p} {q} e = ap (λ (r : Refusal). r.number) (same_refused {r = refusal k p} {q = refusal x q} e)
+  same_number : {k x p q : ℕ} → ◌≡◌ {A = Searched} (Err (refusal k p)) (Err (refusal x q)) → k ≡ x
+  same_number {k} {x} {p} {q} e = ap (λ (r : Refusal). r.number) (same_err {r = refusal k p} {q = refusal x q} e)
 
-  same_place : {k x p q : ℕ} → Refused (refusal k p) ≡ Refused (refusal x q) → p ≡ q
-  same_place {k} {x} {p} {q} e = ap (λ (r : Refusal). r.place) (same_refused {r = refusal k p} {q = refusal x q} e)
+  same_place : {k x p q : ℕ} → ◌≡◌ {A = Searched} (Err (refusal k p)) (Err (refusal x q)) → p ≡ q
+  same_place {k} {x} {p} {q} e = ap (λ (r : Refusal). r.place) (same_err {r = refusal k p} {q = refusal x q} e)
 
   same_answer : {c d : ℕ} {p q : List ℕ} → solve_job j ≡ plan c p → solve_job j ≡ plan d q → (c ≡ d) × (p ≡ q)
   same_answer {c} {d} {p} {q} e f = let a : c ≡ d = cc in let b : p ≡ q = cc in (a, b)
@@ -63,7 +60,7 @@ module _ (call : Call) (table buffer : List ℕ) where
   not_both e f = plan_not_none (sym e ∙ f)
 
   -- A refusal of a call that is not taken has none of the numbers 10 to 13.
-  too_early : {A : Type 0} {q : Refusal} {k p : ℕ} → call_verdict call ≡ Bad q → Refused q ≡ Refused (refusal k p) → Between 10 13 k → A
+  too_early : {A : Type 0} {q : Refusal} {k p : ℕ} → call_verdict call ≡ Err q → ◌≡◌ {A = Searched} (Err q) (Err (refusal k p)) → Between 10 13 k → A
   too_early {q = q} {k} {p} b h l =
       absurd (other (call_numbered NotLate (λ n m. inl m.1) (inr refl) call q b))
     where
@@ -71,7 +68,7 @@ module _ (call : Call) (table buffer : List ℕ) where
       NotLate n = (n ≤ 5) ⊎ (n ≡ 14)
 
       same : q.number ≡ k
-      same = ap (λ (r : Refusal). r.number) (same_refused {q = refusal k p} h)
+      same = ap (λ (r : Refusal). r.number) (same_err {q = refusal k p} h)
 
       other : NotLate q.number → ⊥
       other (inl m) = omega (arith, same, l.0)
@@ -82,7 +79,8 @@ module _ (call : Call) (table buffer : List ℕ) where
   no_plan_late (inr e) = (omega arith, omega arith)
 
   -- The number of a job without a plan is 11 or 12, so it is no other.
-  other_number : {A : Type 0} → Taken call → {k x p q : ℕ} → solve_job j ≡ no_plan k → Refused (refusal k p) ≡ Refused (refusal x q) → (NoPlan x → ⊥) → A
+  other_number : {A : Type 0} → Taken call → {k x p q : ℕ} → solve_job j ≡ no_plan k → ◌≡◌ {A = Searched} (Err (refusal k p)) (Err (refusal x q))
+      → (NoPlan x → ⊥) → A
   other_number fine {k} {x} s h n = absurd (n (subst NoPlan (same_number h) ((right fine).numbers s)))
 
   -- ---- the job's plan
@@ -108,28 +106,28 @@ module _ (call : Call) (table buffer : List ℕ) where
   results (not_taken b) fine = absurd (bad_not_fine (sym b ∙ fine))
   results (none f {k} s) fine = go ((right f).numbers s)
     where
-      go : NoPlan k → Result (Refused (refusal k 0))
-      go (inl e) = subst (λ (n : ℕ). Result (Refused (refusal n 0))) (sym e) some_cut
-      go (inr e) = subst (λ (n : ℕ). Result (Refused (refusal n 0))) (sym e) none_cut
+      go : NoPlan k → Result (Err (refusal k 0))
+      go (inl e) = subst (λ (n : ℕ). Result (Err (refusal n 0))) (sym e) some_cut
+      go (inr e) = subst (λ (n : ℕ). Result (Err (refusal n 0))) (sym e) none_cut
   results (whole f {c} {p} s l) fine = plan_handed c (length p)
   results (short f {c} {p} s l) fine = plan_longer (length p)
   results (small f l) fine = table_small
 
-  handed : {e : SearchEnd} → Way call table buffer e → {c n : ℕ} → e.result ≡ Planned c n → Handed call buffer e c n
+  handed : {e : SearchEnd} → Way call table buffer e → {c n : ℕ} → e.result ≡ Ok (planned c n) → Handed call buffer e c n
   unfolding written_over
   handed (whole fine {c} {p} s l) {c = d} {n} h =
-      let ec : c ≡ d = cc in
-      let en : length p ≡ n = cc in
+      let f = same_planned h in
+      let en : length p ≡ n = f.1 in
       let front = take_at p (drop (length p) buffer) n en in
       record {
-        plan_is = is_plan fine (s ∙ (λ z. plan (ec z) (sym front z)));
+        plan_is = is_plan fine (s ∙ (λ z. plan (f.0 z) (sym front z)));
         size = ap length front ∙ en;
         rest = drop_at p (drop (length p) buffer) n en ∙ ap (λ (k : ℕ). drop k buffer) en;
       }
-  handed (not_taken b) h = refused_not_planned h
-  handed (none fine s) h = refused_not_planned h
-  handed (short fine s l) h = refused_not_planned h
-  handed (small fine l) h = refused_not_planned h
+  handed (not_taken b) h = err_not_ok h
+  handed (none fine s) h = err_not_ok h
+  handed (short fine s l) h = err_not_ok h
+  handed (small fine l) h = err_not_ok h
 
   slots_most : slots_in table ≤ 65_536
   unfolding slots_in
@@ -147,23 +145,23 @@ module _ (call : Call) (table buffer : List ℕ) where
       go (yes l) = absurd (o (fine, l))
       go (no l) = omega arith
 
-  few_steps : {e : SearchEnd} → Way call table buffer e → (Outnumbered call table → ⊥) → {c n : ℕ} → e.result ≡ Planned c n
+  few_steps : {e : SearchEnd} → Way call table buffer e → (Outnumbered call table → ⊥) → {c n : ℕ} → e.result ≡ Ok (planned c n)
       → (n ≤ 65_535) × (Bytes call.bytes → c ≤ 65_535 * 65_535)
   few_steps w o {c} {n} h =
       let p = handed w h in
       let l : n ≤ 65_535 = omega (arith, p.size, p.plan_is.few_steps, enough p.plan_is.taken o, slots_most) in
       (l, λ bs. omega (arith, p.size, p.plan_is.cost_most bs))
 
-  none_there : {e : SearchEnd} → Way call table buffer e → {k p : ℕ} → NoPlan k → e.result ≡ Refused (refusal k p) → Taken call × (solve_job j ≡ no_plan k)
+  none_there : {e : SearchEnd} → Way call table buffer e → {k p : ℕ} → NoPlan k → e.result ≡ Err (refusal k p) → Taken call × (solve_job j ≡ no_plan k)
   none_there (not_taken b) n h = too_early b h (no_plan_late n)
   none_there (none f s) n h = (f, s ∙ ap no_plan (same_number h))
-  none_there (whole f s l) n h = planned_not_refused h
+  none_there (whole f s l) n h = ok_not_err h
   none_there (short f s l) (inl d) h = absurd (omega (arith, same_number h))
   none_there (short f s l) (inr d) h = absurd (omega (arith, same_number h))
   none_there (small f l) (inl d) h = absurd (omega (arith, same_number h))
   none_there (small f l) (inr d) h = absurd (omega (arith, same_number h))
 
-  twelve : {e : SearchEnd} → Way call table buffer e → {p : ℕ} → e.result ≡ Refused (refusal 12 p) → (q : List ℕ) → AllowedPlan j q → ⊥
+  twelve : {e : SearchEnd} → Way call table buffer e → {p : ℕ} → e.result ≡ Err (refusal 12 p) → (q : List ℕ) → AllowedPlan j q → ⊥
   twelve w h q a = let s = none_there w (inr refl) h in twelve_none j (call_proper call s.0) s.1 q ((allowed_is_plan j q).1 a)
 
   not_thirteen : NoPlan 13 → ⊥
@@ -174,58 +172,58 @@ module _ (call : Call) (table buffer : List ℕ) where
   not_ten (inl e) = omega arith
   not_ten (inr e) = omega arith
 
-  told : {e : SearchEnd} → Way call table buffer e → {n : ℕ} → e.result ≡ Refused (refusal 13 n) → Told call buffer n
+  told : {e : SearchEnd} → Way call table buffer e → {n : ℕ} → e.result ≡ Err (refusal 13 n) → Told call buffer n
   told (not_taken b) h = too_early b h (omega arith, omega arith)
   told (none f s) h = other_number f s h not_thirteen
-  told (whole f s l) h = planned_not_refused h
+  told (whole f s l) h = ok_not_err h
   told (short f {c} {p} s l) h = record { cost = c; steps = p; plan_is = is_plan f s; size = same_place h; longer = omega (arith, same_place h) }
   told (small f l) h = absurd (omega (arith, same_number h))
 
-  crowded : {e : SearchEnd} → Way call table buffer e → {p : ℕ} → e.result ≡ Refused (refusal 10 p) → Taken call × (slots_in table < reached_count j)
+  crowded : {e : SearchEnd} → Way call table buffer e → {p : ℕ} → e.result ≡ Err (refusal 10 p) → Taken call × (slots_in table < reached_count j)
   crowded (not_taken b) h = too_early b h (omega arith, omega arith)
   crowded (none f s) h = other_number f s h not_ten
-  crowded (whole f s l) h = planned_not_refused h
+  crowded (whole f s l) h = ok_not_err h
   crowded (short f s l) h = absurd (omega (arith, same_number h))
   crowded (small f l) h = (f, l)
 
   -- ---- when each answer comes
 
   plan_comes : {e : SearchEnd} → Way call table buffer e → Taken call → Other e → {c : ℕ} {p : List ℕ} → solve_job j ≡ plan c p → length p ≤ length buffer
-      → (e.result ≡ Planned c (length p)) × (take (length p) e.plan ≡ p)
+      → (e.result ≡ Ok (planned c (length p))) × (take (length p) e.plan ≡ p)
   unfolding written_over
   plan_comes (not_taken b) fine o t l = absurd (bad_not_fine (sym b ∙ fine))
   plan_comes (none f s) fine o t l = not_both t s
   plan_comes (whole f {c = d} {p = q} s m) fine o {c} {p} t l =
       let a = same_answer s t in (
-        (λ z. Planned (a.0 z) (length (a.1 z))),
+        (λ z. Ok (planned (a.0 z) (length (a.1 z)))),
         ap (λ (y : List ℕ). take (length y) (q ++ drop (length q) buffer)) (sym a.1) ∙ take_at q (drop (length q) buffer) (length q) refl ∙ a.1,
       )
   plan_comes (short f s m) fine o t l = absurd (omega (arith, ap length (same_answer s t).1))
   plan_comes (small f m) fine o t l = absurd (o 0 refl)
 
   thirteen_comes : {e : SearchEnd} → Way call table buffer e → Taken call → Other e → {c : ℕ} {p : List ℕ} → solve_job j ≡ plan c p
-      → length buffer < length p → e.result ≡ Refused (refusal 13 (length p))
+      → length buffer < length p → e.result ≡ Err (refusal 13 (length p))
   thirteen_comes (not_taken b) fine o t l = absurd (bad_not_fine (sym b ∙ fine))
   thirteen_comes (none f s) fine o t l = not_both t s
   thirteen_comes (whole f s m) fine o t l = absurd (omega (arith, ap length (same_answer s t).1))
-  thirteen_comes (short f s m) fine o t l = ap (λ (y : List ℕ). Refused (refusal 13 (length y))) (same_answer s t).1
+  thirteen_comes (short f s m) fine o t l = ap (λ (y : List ℕ). Err (refusal 13 (length y))) (same_answer s t).1
   thirteen_comes (small f m) fine o t l = absurd (o 0 refl)
 
-  none_comes : {e : SearchEnd} → Way call table buffer e → Taken call → Other e → {k : ℕ} → solve_job j ≡ no_plan k → e.result ≡ Refused (refusal k 0)
+  none_comes : {e : SearchEnd} → Way call table buffer e → Taken call → Other e → {k : ℕ} → solve_job j ≡ no_plan k → e.result ≡ Err (refusal k 0)
   none_comes (not_taken b) fine o t = absurd (bad_not_fine (sym b ∙ fine))
-  none_comes (none f {k = x} s) fine o {k} t = let d : x ≡ k = cc in ap (λ (y : ℕ). Refused (refusal y 0)) d
+  none_comes (none f {k = x} s) fine o {k} t = let d : x ≡ k = cc in ap (λ (y : ℕ). Err (refusal y 0)) d
   none_comes (whole f s l) fine o t = not_both s t
   none_comes (short f s l) fine o t = not_both s t
   none_comes (small f l) fine o t = absurd (o 0 refl)
 
-  none_allowed : {e : SearchEnd} → Way call table buffer e → MeetsHints j → {k p : ℕ} → NoPlan k → e.result ≡ Refused (refusal k p)
+  none_allowed : {e : SearchEnd} → Way call table buffer e → MeetsHints j → {k p : ℕ} → NoPlan k → e.result ≡ Err (refusal k p)
       → (q : List ℕ) → AllowedPlan j q → ⊥
   none_allowed w m n h q a =
       let s = none_there w n h in
       ((right s.0).none_exactly m).0 (_, s.1) q ((allowed_is_plan j q).1 a)
 
   none_allowed_comes : {e : SearchEnd} → Way call table buffer e → Taken call → Other e → MeetsHints j → ((q : List ℕ) → AllowedPlan j q → ⊥)
-      → (k : ℕ) × NoPlan k × (e.result ≡ Refused (refusal k 0))
+      → (k : ℕ) × NoPlan k × (e.result ≡ Err (refusal k 0))
   none_allowed_comes w fine o m nothing =
       let s = ((right fine).none_exactly m).1 (λ q a. nothing q ((allowed_is_plan j q).0 a)) in
       (s.0, (right fine).numbers s.1, none_comes w fine o s.1)
@@ -259,7 +257,7 @@ module _ (call : Call) (table buffer : List ℕ) where
       }
 
   -- The part that is handed back, with its numbers, is that of such an end.
-  pub part_is : {full : Job → ℕ → Bool} {table' part numbers : List ℕ} (g : PartGiven full call table buffer table' part numbers)
+  pub part_is : {full : Job → ℕ → Bool} {table' part : List ℕ} {result : Searched} (g : PartGiven full call table buffer table' part result)
       → PartIs call buffer g.end part
   unfolding part_of steps_in
   part_is g = record {

@@ -1,13 +1,12 @@
 -- Card 2 holds: the estimate is the max estimate, plans stay, and a start without an estimate gives 12.
+use Rattle.std.proofs.Common.{Err, Option, None, Some}
 use mathlib.Core.Path.{◌≡◌, refl, sym, ap, ◌∙◌, subst}
 use mathlib.Core.Bool.{true}
-use mathlib.Core.Option.{Option, none, some}
 use mathlib.Core.List.{List, [], ◌∷◌, ◌++◌}
 use Prim.Native.Nat.{ℕ}
 use native.Mathlib.Omega.{arith}
 use lib.ListN.{length}
-use Rattle.model.specs.declared.Searched.TheVariants.{Refused}
-use Rattle.model.specs.Verdict.{refusal}
+use Rattle.model.specs.Refusal.{refusal}
 use Rattle.model.specs.job.Job.{Job, action_of}
 use Rattle.model.specs.task.State.{within, after}
 use Rattle.model.specs.task.Plan.{state_after, executable, cost_of}
@@ -55,23 +54,23 @@ module _ (j : Job) where
 
   -- ---- a start without an estimate
 
-  not_reached : estimate_of j j.start ≡ none → (system_of j).start ≡ none
+  not_reached : estimate_of j j.start ≡ None → (system_of j).start ≡ None
   not_reached e = go (start_node j) refl
     where
-      go : (o : Option Node) → start_node j ≡ o → (system_of j).start ≡ none
-      go none d = kept_none (λ (n : Node). has (node_estimate j n)) d
-      go (some m) d =
+      go : (o : Option Node) → start_node j ≡ o → (system_of j).start ≡ None
+      go None d = kept_none (λ (n : Node). has (node_estimate j n)) d
+      go (Some m) d =
           kept_out (λ (n : Node). has (node_estimate j n)) d
           (ap (λ (n : Node). has (node_estimate j n)) (sym ((start_some j m).0 d).1) ∙ ap has e)
 
-  none_reached : estimate_of j j.start ≡ none → reached (system_of j) ≡ []
+  none_reached : estimate_of j j.start ≡ None → reached (system_of j) ≡ []
   none_reached e = reached_none (system_of j) (not_reached e)
 
-  twelve : estimate_of j j.start ≡ none → solve_job j ≡ no_plan 12
+  twelve : estimate_of j j.start ≡ None → solve_job j ≡ no_plan 12
   unfolding solve_job solve
   twelve e = rw (none_reached e)
 
-  count_zero : estimate_of j j.start ≡ none → reached_count j ≡ 0
+  count_zero : estimate_of j j.start ≡ None → reached_count j ≡ 0
   unfolding reached_count
   count_zero e = ap length (none_reached e)
 
@@ -79,7 +78,7 @@ module _ (call : Call) (table buffer : List ℕ) where
   -- Every way out of a search but 12 is shut.
   unreached : {e : SearchEnd} → Way call table buffer e → StartUnreached call e
   unreached (not_taken b) fine h = absurd (bad_not_fine (sym b ∙ fine))
-  unreached (no_answer f {k} s) fine h = let t = twelve (caller_job call) h in let d : k ≡ 12 = cc in ap (λ (n : ℕ). Refused (refusal n 0)) d
+  unreached (no_answer f {k} s) fine h = let t = twelve (caller_job call) h in let d : k ≡ 12 = cc in ap (λ (n : ℕ). Err (refusal n 0)) d
   unreached (whole f s l) fine h = plan_not_none (sym s ∙ twelve (caller_job call) h)
   unreached (short f s l) fine h = plan_not_none (sym s ∙ twelve (caller_job call) h)
   unreached (small f l) fine h = absurd (omega (arith, count_zero (caller_job call) h))

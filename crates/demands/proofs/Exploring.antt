@@ -1,7 +1,7 @@
 -- Demand 2, accepted jobs: sections are encodings, rules and hints are read right, and the nodes reached solve the equations.
+use Rattle.std.proofs.Common.{Option, None, Some}
 use mathlib.Core.Path.{◌≡◌, refl, sym, ap, ◌∙◌}
 use mathlib.Core.Bool.{false, true≢false}
-use mathlib.Core.Option.{Option, none, some}
 use mathlib.Core.Logic.{◌⊎◌, inl, inr}
 use mathlib.Core.List.Memᴰ
 use mathlib.Core.List.{List, [], ◌∷◌, map, Memᴰ}
@@ -60,8 +60,8 @@ module _ (j : Job) (proper : ProperJob j) where
   different_nodes = distinct_nodes (reached S) (go S.start refl)
     where
       go : (o : Option Node) → S.start ≡ o → Distinct S (reached S)
-      go none e = rw (reached_none S e) tt
-      go (some m) e = (reached_inv S laws finite e).0.distinct
+      go None e = rw (reached_none S e) tt
+      go (Some m) e = (reached_inv S laws finite e).0.distinct
 
 module _ (job : List ℕ) (fine : Accepted job) where
   abbrev j : Job

@@ -8,8 +8,8 @@ use lib.ListN.{length, length-append}
 use Rattle.model.specs.job.Job.{Job}
 use Rattle.model.specs.exploration.Key.{Key, zero_key, extend}
 use Rattle.model.specs.exploration.System.{System}
-use Rattle.model.specs.exploration.Equations.{unbounded, Answer, plan, Entries, Explores, Uncut, Path}
-use Rattle.model.specs.exploration.Equations.{begin, onward, Plan, Answers, with_plan, some_cut, none_cut}
+use Rattle.model.specs.exploration.Equations.{unbounded, Answer, plan, Entries, Explores, Uncut, Path, begin, onward, Plan, Answers, with_plan, some_cut}
+use Rattle.model.specs.exploration.Equations.{none_cut}
 use Rattle.model.specs.exploration.Explore.{Of, reached}
 use Rattle.model.specs.search.JobSystem.{system_of, solve_job, reached_count}
 use Rattle.model.proofs.exploration.Laws.{Laws}

@@ -1,4 +1,5 @@
 -- The numbers that checks can refuse with.
+use Rattle.std.proofs.Common.{Ok, Err}
 use mathlib.Core.Path.{◌≡◌, refl, subst}
 use mathlib.Core.Bool.{Bool, true, false, ◌&&◌}
 use mathlib.Core.Logic.{◌⊎◌, inl, inr}
@@ -7,18 +8,16 @@ use Prim.Native.Nat.{ℕ, zero, suc, ◌+◌, ◌-◌, ◌*◌, ◌^◌}
 use native.Mathlib.Omega.{arith}
 use lib.ListN.{length, get_or, take, drop}
 use lib.Dec.{leb, ltb, eqb}
-use Rattle.model.specs.declared.Refusal.{Refusal}
-use Rattle.model.specs.declared.Verdict.{Verdict}
-use Rattle.model.specs.declared.Verdict.TheVariants.{Fine, Bad}
+use Rattle.model.specs.Refusal.{Refusal}
+use Rattle.model.specs.Verdict.{no_refusal, Verdict, unless, or_else, in_turn}
 use Rattle.model.specs.declared.Constant.TheVariants.{True}
 use Rattle.model.specs.Bits.{bit, number_at}
-use Rattle.model.specs.Verdict.{unless, or_else, in_turn}
 use Rattle.model.specs.logic.Parts.{most_parts, Part, parts_of}
 use Rattle.model.specs.logic.Reading.{Parsed, formula, wrong, section}
 use Rattle.model.specs.logic.Formula.{constant}
 use Rattle.model.specs.logic.Truth.{holds}
-use Rattle.model.specs.job.Decoding.{counts_in_range, parts_verdict, formula_verdict, head_verdict, section_start, right_length}
-use Rattle.model.specs.job.Decoding.{pair_verdict, pairs_verdict, set_verdict, action_verdict, task_verdict, formulas_verdict, job_verdict}
+use Rattle.model.specs.job.Decoding.{counts_in_range, parts_verdict, formula_verdict, head_verdict, section_start, right_length, pair_verdict, pairs_verdict}
+use Rattle.model.specs.job.Decoding.{set_verdict, action_verdict, task_verdict, formulas_verdict, job_verdict}
 use Rattle.model.specs.job.Job.{Job, action_of}
 use Rattle.model.specs.job.Layout.{set_bytes, set_count, fact_count, action_count, constraint_count, hint_count, pair_count, pair_offset, pair_length}
 use Rattle.model.specs.job.Layout.{set_offset, formula_in}
@@ -28,26 +27,26 @@ use Rattle.model.specs.calls.Call.{Call, needs_verdict, call_verdict}
 use Rattle.model.specs.calls.Validate.{length_verdict, step_verdict, goal_verdict, constraint_verdict, steps_verdict}
 use Rattle.model.specs.calls.WriteBack.{rule_verdict}
 use Rattle.demands.specs.Demand1.{Between}
-use Rattle.demands.proofs.Results.{fine_not_bad, same_bad}
+use Rattle.demands.proofs.Results.{ok_not_err, same_err}
 
 module _ (P : ℕ → Type 0) where
   -- A check refuses only with numbers of which P holds.
   abbrev pub Numbered : Verdict → Type 0
-  Numbered v = (r : Refusal) → v ≡ Bad r → P r.number
+  Numbered v = (r : Refusal) → v ≡ Err r → P r.number
 
   pub with_number : (b : Bool) (n p : ℕ) → P n → Numbered (unless b n p)
   unfolding unless
-  with_number true n p h r e = fine_not_bad e
-  with_number false n p h r e = subst (λ (x : Refusal). P x.number) (same_bad e) h
+  with_number true n p h r e = ok_not_err e
+  with_number false n p h r e = subst (λ (x : Refusal). P x.number) (same_err e) h
 
   pub or_else_lem : (u v : Verdict) → Numbered u → Numbered v → Numbered (or_else u v)
   unfolding or_else
-  or_else_lem Fine v a b = b
-  or_else_lem (Bad q) v a b = a
+  or_else_lem (Ok _) v a b = b
+  or_else_lem (Err q) v a b = a
 
   pub in_turn_lem : (n : ℕ) (f : ℕ → Verdict) → ((i : ℕ) → Numbered (f i)) → Numbered (in_turn n f)
   unfolding in_turn
-  in_turn_lem zero f h = λ r e. fine_not_bad e
+  in_turn_lem zero f h = λ r e. ok_not_err e
   in_turn_lem (suc n) f h = or_else_lem (in_turn n f) (f n) (in_turn_lem n f h) (h n)
 
 -- ---- the numbers of formulas
@@ -57,14 +56,14 @@ module _ (P : ℕ → Type 0) (four : P 4) (five : P 5) where
   unfolding parts_verdict
   parts_numbered o ps = go (drop most_parts ps)
     where
-      go : (qs : List Part) → Numbered P (elim qs as (λ x. Verdict) [ [] ↦ Fine | p ∷ qs ↦ Bad (record { number = 5; place = o + p.position }) ])
-      go [] r e = fine_not_bad e
-      go (q ∷ qs) r e = subst (λ (x : Refusal). P x.number) (same_bad e) five
+      go : (qs : List Part) → Numbered P (elim qs as (λ x. Verdict) [ [] ↦ no_refusal | p ∷ qs ↦ Err (record { number = 5; place = o + p.position }) ])
+      go [] r e = ok_not_err e
+      go (q ∷ qs) r e = subst (λ (x : Refusal). P x.number) (same_err e) five
 
   pub formula_numbered : (o : ℕ) (x : Parsed) → Numbered P (formula_verdict o x)
   unfolding formula_verdict
   formula_numbered o (formula φ n) = parts_numbered o (parts_of φ)
-  formula_numbered o (wrong p) = λ r e. subst (λ (x : Refusal). P x.number) (same_bad e) four
+  formula_numbered o (wrong p) = λ r e. subst (λ (x : Refusal). P x.number) (same_err e) four
 
 -- ---- jobs, step lists, and rules to write back
 

@@ -1,4 +1,6 @@
 -- Demand 2, the read-through: what passes, and what it gives.
+use Rattle.std.proofs.Common.{Ok, Err}
+use Rattle.model.specs.Results.{passed}
 use mathlib.Core.Path.{◌≡◌, refl, sym, ◌∙◌, subst}
 use mathlib.Core.Bool.{Bool, true, false≢true}
 use mathlib.Core.Logic.{◌↔◌}
@@ -10,11 +12,8 @@ use native.Mathlib.Nat.{lt_of_lt_of_le}
 use lib.ListN.{length, get_or}
 use lib.Pow.{pow_mono}
 use Rattle.model.specs.declared.Constant.TheVariants.{False}
-use Rattle.model.specs.declared.Verdict.{Verdict}
-use Rattle.model.specs.declared.Verdict.TheVariants.{Fine, Bad}
-use Rattle.model.specs.declared.Validated.TheVariants.{Passed}
+use Rattle.model.specs.Verdict.{Verdict, or_else}
 use Rattle.model.specs.Bits.{bit, bits_of}
-use Rattle.model.specs.Verdict.{or_else}
 use Rattle.model.specs.logic.Formula.{Formula, constant}
 use Rattle.model.specs.logic.Truth.{holds}
 use Rattle.model.specs.logic.Sat.{Sat}
@@ -32,7 +31,7 @@ use Rattle.model.proofs.job.ReadThrough.{validated_passes}
 use Rattle.model.proofs.calls.CallLaws.{call_job}
 use Rattle.demands.specs.Demand1.{Taken}
 use Rattle.demands.specs.Demand2.{AllowedPlan, ReadsThrough}
-use Rattle.demands.proofs.Results.{refused_not_passed}
+use Rattle.demands.proofs.Results.{same_passed, err_not_ok}
 use Rattle.demands.proofs.CostSums.{cost_at_most}
 
 module _ (j : Job) (p : List ℕ) where
@@ -75,21 +74,17 @@ module _ (call : Call) (p : List ℕ) where
   j = job_of call.bytes
 
   -- What passes has its own cost and bits.
-  own_numbers : {c b : ℕ} → validated call p ≡ Passed c b → (c ≡ cost_of j p) × (b ≡ hint_bits j p)
+  own_numbers : {c b : ℕ} → validated call p ≡ Ok (passed c b) → (c ≡ cost_of j p) × (b ≡ hint_bits j p)
   unfolding validated
   own_numbers {c} {b} h = go (or_else (call_verdict call) (steps_verdict j p (usable_in call))) refl
     where
       go : (v : Verdict) → or_else (call_verdict call) (steps_verdict j p (usable_in call)) ≡ v → (c ≡ cost_of j p) × (b ≡ hint_bits j p)
-      go Fine e =
-          let f : Passed (cost_of j p) (hint_bits j p) ≡ Passed c b = rw (e, validated) at h in
-          let ec : c ≡ cost_of j p = cc in
-          let eb : b ≡ hint_bits j p = cc in
-          (ec, eb)
-      go (Bad r) e = refused_not_passed {r = r} (rw (e, validated) at h)
+      go (Ok _) e = let f = same_passed (rw (e, validated) at h) in (sym f.0, sym f.1)
+      go (Err r) e = err_not_ok {r = r} (rw (e, validated) at h)
 
   -- So it is an allowed plan in a call that is taken, and not too long.
-  good : {c b : ℕ} → validated call p ≡ Passed c b → Taken call × (length p ≤ 65_535) × (allowed (caller_job call) p ≡ true)
-  good h = let n = own_numbers h in (validated_passes call p).0 (h ∙ (λ i. Passed (n.0 i) (n.1 i)))
+  good : {c b : ℕ} → validated call p ≡ Ok (passed c b) → Taken call × (length p ≤ 65_535) × (allowed (caller_job call) p ≡ true)
+  good h = let n = own_numbers h in (validated_passes call p).0 (h ∙ (λ i. Ok (passed (n.0 i) (n.1 i))))
 
   hint_met : (i : ℕ) → (bit (hint_bits j p) i ≡ true) ↔ ((i < length j.hints) × Sat (worlds j p) 0 (get_or j.hints i (constant False)))
   unfolding hint_bits

@@ -1,4 +1,6 @@
 -- Demand 1 holds.
+use Rattle.std.proofs.Common.{Ok, Err}
+use Rattle.model.specs.Results.{planned, passed, Searched, Validated, Rewritten}
 use mathlib.Core.Path.{◌≡◌, refl, sym, ap, ◌∙◌, subst}
 use mathlib.Core.Bool.{Bool, true, false}
 use mathlib.Core.Logic.{◌⊎◌, inl, inr}
@@ -8,16 +10,8 @@ use native.Mathlib.Omega.{arith}
 use lib.Dec.{leb}
 use lib.ListN.{length}
 use borrow.Author.Tests.{ne_eqb}
-use Rattle.model.specs.declared.Refusal.{Refusal}
-use Rattle.model.specs.declared.Verdict.{Verdict}
-use Rattle.model.specs.declared.Verdict.TheVariants.{Fine, Bad}
-use Rattle.model.specs.declared.Searched.{Searched}
-use Rattle.model.specs.declared.Searched.TheVariants.{Planned, Refused}
-use Rattle.model.specs.declared.Validated.{Validated}
-use Rattle.model.specs.declared.Validated.TheVariants.{Passed, Refused as NotPassed}
-use Rattle.model.specs.declared.Rewritten.{Rewritten}
-use Rattle.model.specs.declared.Rewritten.TheVariants.{Written, Refused as NotWritten}
-use Rattle.model.specs.Verdict.{refusal, unless, or_else}
+use Rattle.model.specs.Refusal.{Refusal, refusal}
+use Rattle.model.specs.Verdict.{Verdict, unless, or_else}
 use Rattle.model.specs.job.Job.{Job}
 use Rattle.model.specs.job.Layout.{action_count, job_of}
 use Rattle.model.specs.logic.Reading.{section}
@@ -29,9 +23,9 @@ use Rattle.model.specs.calls.Numbers.{refusal_numbers, search_numbers, validate_
 use Rattle.model.proofs.job.VerdictLaws.{bad_not_fine}
 use Rattle.model.proofs.calls.CallLaws.{call_fine, call_right}
 use Rattle.model.proofs.calls.Ways.{Way, not_taken, none, whole, short, small, way}
-use Rattle.demands.specs.Demand1.{Taken, Between, Checks, SearchRefuses, ReadThroughRefuses, RuleNumber, WriteBackRefuses}
-use Rattle.demands.specs.Demand1.{SearchAnswer, ValidateAnswer, WriteAnswer}
-use Rattle.demands.proofs.Results.{planned_not_refused, same_refused, passed_not_refused, written_not_refused}
+use Rattle.demands.specs.Demand1.{Taken, Between, Checks, SearchRefuses, ReadThroughRefuses, RuleNumber, WriteBackRefuses, SearchAnswer, ValidateAnswer}
+use Rattle.demands.specs.Demand1.{WriteAnswer}
+use Rattle.demands.proofs.Results.{ok_not_err, same_err}
 use Rattle.demands.proofs.Numbered.{job_numbered, call_numbered, steps_numbered, rule_numbered}
 
 -- ---- what is checked first
@@ -50,23 +44,23 @@ checks call = record {
 
 module _ (call : Call) (table buffer : List ℕ) where
   -- What holds of a refusal's number holds of that of a result that is the same.
-  as_number : {r q : Refusal} (P : ℕ → Type 0) → Refused q ≡ Refused r → P q.number → P r.number
-  as_number P e h = subst (λ (x : Refusal). P x.number) (same_refused e) h
+  as_number : {r q : Refusal} (P : ℕ → Type 0) → ◌≡◌ {A = Searched} (Err q) (Err r) → P q.number → P r.number
+  as_number P e h = subst (λ (x : Refusal). P x.number) (same_err e) h
 
   -- Of a call that is taken the numbers are 10 to 13.
-  late : {e : SearchEnd} → Way call table buffer e → Taken call → {r : Refusal} → e.result ≡ Refused r → Between 10 13 r.number
+  late : {e : SearchEnd} → Way call table buffer e → Taken call → {r : Refusal} → e.result ≡ Err r → Between 10 13 r.number
   late (not_taken b) fine h = absurd (bad_not_fine (sym b ∙ fine))
   late (none f {k} s) fine h = as_number (Between 10 13) h (go ((call_right call f).numbers s))
     where
       go : (k ≡ 11) ⊎ (k ≡ 12) → Between 10 13 k
       go (inl e) = (omega arith, omega arith)
       go (inr e) = (omega arith, omega arith)
-  late (whole f s l) fine h = planned_not_refused h
+  late (whole f s l) fine h = ok_not_err h
   late (short f s l) fine h = as_number (Between 10 13) h (omega arith, omega arith)
   late (small f l) fine h = as_number (Between 10 13) h (omega arith, omega arith)
 
-  early : {e : SearchEnd} → Way call table buffer e → {r : Refusal} → call_verdict call ≡ Bad r → e.result ≡ Refused r
-  early (not_taken {r = q} b) {r} h = let d : q ≡ r = cc in ap Refused d
+  early : {e : SearchEnd} → Way call table buffer e → {r : Refusal} → call_verdict call ≡ Err r → e.result ≡ Err r
+  early (not_taken {r = q} b) {r} h = let d : q ≡ r = cc in ap Err d
   early (none f s) h = absurd (bad_not_fine (sym h ∙ f))
   early (whole f s l) h = absurd (bad_not_fine (sym h ∙ f))
   early (short f s l) h = absurd (bad_not_fine (sym h ∙ f))
@@ -75,17 +69,17 @@ module _ (call : Call) (table buffer : List ℕ) where
   abbrev Number : ℕ → Type 0
   Number k = Between 1 5 k ⊎ (k ≡ 14) ⊎ Between 10 13 k
 
-  any : {e : SearchEnd} → Way call table buffer e → {r : Refusal} → e.result ≡ Refused r → Number r.number
+  any : {e : SearchEnd} → Way call table buffer e → {r : Refusal} → e.result ≡ Err r → Number r.number
   any (not_taken {r = q} b) h = as_number Number h (call_numbered Number (λ k l. inl l) (inr (inl refl)) call q b)
   any (none f s) h = inr (inr (late (none f s) f h))
-  any (whole f s l) h = planned_not_refused h
+  any (whole f s l) h = ok_not_err h
   any (short f s l) h = inr (inr (late (short f s l) f h))
   any (small f l) h = inr (inr (late (small f l) f h))
 
-  kept : {e : SearchEnd} → Way call table buffer e → {r : Refusal} → e.result ≡ Refused r → e.plan ≡ buffer
+  kept : {e : SearchEnd} → Way call table buffer e → {r : Refusal} → e.result ≡ Err r → e.plan ≡ buffer
   kept (not_taken b) h = refl
   kept (none f s) h = refl
-  kept (whole f s l) h = planned_not_refused h
+  kept (whole f s l) h = ok_not_err h
   kept (short f s l) h = refl
   kept (small f l) h = refl
 
@@ -130,27 +124,27 @@ module _ (call : Call) (p : List ℕ) where
   by_verdicts : (u v : Verdict) → call_verdict call ≡ u → steps_verdict (job_of call.bytes) p (usable_in call) ≡ v
       → ReadThroughRefuses call (validated call p)
   unfolding validated or_else
-  by_verdicts (Bad q) v eu ev =
-      let is : validated call p ≡ NotPassed q = rw (eu, validated) in
+  by_verdicts (Err q) v eu ev =
+      let is : validated call p ≡ Err q = rw (eu, validated) in
       let n = call_numbered Listed (λ k l. inl (l.0, omega (arith, l.1))) (inr (omega arith, omega arith)) call q eu in
       record {
         numbers = λ {r} h. let d : q ≡ r = cc in subst (λ (x : Refusal). Listed x.number) d n;
-        not_taken = λ {r} h. let d : q ≡ r = cc in is ∙ ap NotPassed d;
+        not_taken = λ {r} h. let d : q ≡ r = cc in is ∙ ap Err d;
         taken = λ fine. absurd (bad_not_fine (sym eu ∙ fine));
       }
-  by_verdicts Fine (Bad q) eu ev =
-      let is : validated call p ≡ NotPassed q = rw (eu, validated, ev) in
+  by_verdicts (Ok _) (Err q) eu ev =
+      let is : validated call p ≡ Err q = rw (eu, validated, ev) in
       let n = steps_numbered (job_of call.bytes) p (usable_in call) q ev in
       record {
         numbers = λ {r} h. let d : q ≡ r = cc in subst (λ (x : Refusal). Listed x.number) d (listed n);
         not_taken = λ h. absurd (bad_not_fine (sym h ∙ eu));
         taken = λ fine {r} h. let d : q ≡ r = cc in subst (λ (x : Refusal). Between 6 9 x.number ⊎ (x.number ≡ 15)) d n;
       }
-  by_verdicts Fine Fine eu ev =
+  by_verdicts (Ok _) (Ok _) eu ev =
       record {
-        numbers = λ h. passed_not_refused (rw (eu, validated, ev) at h);
+        numbers = λ h. ok_not_err (rw (eu, validated, ev) at h);
         not_taken = λ h. absurd (bad_not_fine (sym h ∙ eu));
-        taken = λ fine h. passed_not_refused (rw (eu, validated, ev) at h);
+        taken = λ fine h. ok_not_err (rw (eu, validated, ev) at h);
       }
 
   pub read_through_refuses : ReadThroughRefuses call (validated call p)
@@ -164,16 +158,16 @@ module _ (v a : ℕ) (rule buffer : List ℕ) where
   into_refuses out = go (leb (length out) (length buffer)) refl
     where
       go : (b : Bool) → leb (length out) (length buffer) ≡ b → WriteBackRefuses buffer (into out buffer)
-      go true e = record { numbers = λ h. written_not_refused (rw (e, into) at h); buffer_kept = λ h. written_not_refused (rw (e, into) at h) }
+      go true e = record { numbers = λ h. ok_not_err (rw (e, into) at h); buffer_kept = λ h. ok_not_err (rw (e, into) at h) }
       go false e =
-          let is : into out buffer ≡ write_end (NotWritten (refusal 13 (length out))) buffer = rw (e, into) in
+          let is : into out buffer ≡ write_end (Err (refusal 13 (length out))) buffer = rw (e, into) in
           record {
-            numbers = λ {r} h. let f : NotWritten (refusal 13 (length out)) ≡ NotWritten r = sym (ap (λ (x : WriteEnd). x.result) is) ∙ h in
+            numbers = λ {r} h. let f : Err (refusal 13 (length out)) ≡ Err r = sym (ap (λ (x : WriteEnd). x.result) is) ∙ h in
                 let d : refusal 13 (length out) ≡ r = cc in subst (λ (x : Refusal). RuleNumber x.number) d (inr (inr (inr (inr refl))));
             buffer_kept = λ h. ap (λ (x : WriteEnd). x.buffer) is;
           }
 
-  checked : (q : Refusal) → rule_verdict v a rule ≡ Bad q → RuleNumber q.number
+  checked : (q : Refusal) → rule_verdict v a rule ≡ Err q → RuleNumber q.number
   checked q e = rule_numbered RuleNumber (inl refl) (inr (inl refl)) (inr (inr (inl refl))) (inr (inr (inr (inl refl)))) v a rule q e
 
   pub write_back_refuses : WriteBackRefuses buffer (written_back v a rule buffer)
@@ -181,11 +175,11 @@ module _ (v a : ℕ) (rule buffer : List ℕ) where
   write_back_refuses = go (rule_verdict v a rule) refl
     where
       go : (x : Verdict) → rule_verdict v a rule ≡ x → WriteBackRefuses buffer (written_back v a rule buffer)
-      go Fine e = rw (e, written_back) (into_refuses (rewritten (section v a rule)))
-      go (Bad q) e =
-          let is : written_back v a rule buffer ≡ write_end (NotWritten q) buffer = rw (e, written_back) in
+      go (Ok _) e = rw (e, written_back) (into_refuses (rewritten (section v a rule)))
+      go (Err q) e =
+          let is : written_back v a rule buffer ≡ write_end (Err q) buffer = rw (e, written_back) in
           record {
-            numbers = λ {r} h. let f : NotWritten q ≡ NotWritten r = sym (ap (λ (x : WriteEnd). x.result) is) ∙ h in
+            numbers = λ {r} h. let f : Err q ≡ Err r = sym (ap (λ (x : WriteEnd). x.result) is) ∙ h in
                 let d : q ≡ r = cc in subst (λ (x : Refusal). RuleNumber x.number) d (checked q e);
             buffer_kept = λ h. ap (λ (x : WriteEnd). x.buffer) is;
           }
@@ -204,8 +198,8 @@ search_answer full call table buffer {table'} {buffer'} {k = k} a = go a.result 
     refuses = search_refuses call table buffer (search_end a.result table' buffer') a.ends.gives
 
     go : (r : Searched) → a.result ≡ r → SearchAnswer k
-    go (Planned c n) e = inl (sym (first_of (a.said ∙ ap search_numbers e)))
-    go (Refused r) e =
+    go (Ok _) e = inl (sym (first_of (a.said ∙ ap search_numbers e)))
+    go (Err r) e =
         inr (subst (λ (x : ℕ). Between 1 5 x ⊎ (x ≡ 14) ⊎ Between 10 13 x) (first_of (a.said ∙ ap search_numbers e)) (refuses.numbers e))
 
 pub validate_answer : (call : Call) (p : List ℕ) {k : ℕ} {out : List ℕ} → k ∷ out ≡ validate_numbers (validated call p) → ValidateAnswer k
@@ -213,8 +207,8 @@ unfolding validate_numbers refusal_numbers
 validate_answer call p {k} said = go (validated call p) refl
   where
     go : (v : Validated) → validated call p ≡ v → ValidateAnswer k
-    go (Passed c b) e = inl (sym (first_of (said ∙ ap validate_numbers e)))
-    go (NotPassed r) e =
+    go (Ok _) e = inl (sym (first_of (said ∙ ap validate_numbers e)))
+    go (Err r) e =
         inr (subst (λ (x : ℕ). Between 1 9 x ⊎ Between 14 15 x) (first_of (said ∙ ap validate_numbers e)) ((read_through_refuses call p).numbers e))
 
 pub write_answer : (v a : ℕ) (rule buffer : List ℕ) {buffer' out : List ℕ} {k : ℕ} → WriteAnswers (written_back v a rule buffer) buffer' (k ∷ out)
@@ -223,5 +217,5 @@ unfolding write_numbers refusal_numbers
 write_answer v a rule buffer {k = k} w = go (written_back v a rule buffer).result refl
   where
     go : (r : Rewritten) → (written_back v a rule buffer).result ≡ r → WriteAnswer k
-    go (Written n) e = inl (sym (first_of (w.said ∙ ap write_numbers e)))
-    go (NotWritten r) e = inr (subst RuleNumber (first_of (w.said ∙ ap write_numbers e)) ((write_back_refuses v a rule buffer).numbers e))
+    go (Ok n) e = inl (sym (first_of (w.said ∙ ap write_numbers e)))
+    go (Err r) e = inr (subst RuleNumber (first_of (w.said ∙ ap write_numbers e)) ((write_back_refuses v a rule buffer).numbers e))

@@ -1,4 +1,6 @@
 -- Card 4 holds: a plan has only steps that the caller may use, others are not noticed, and further rights never make a plan dearer.
+use Rattle.std.proofs.Common.{Ok, Err}
+use Rattle.model.specs.Results.{planned}
 use mathlib.Core.Path.{◌≡◌, sym, ap, ◌∙◌, subst}
 use mathlib.Core.Bool.{true}
 use mathlib.Core.Logic.{◌↔◌, ◌⊎◌, inl, inr}
@@ -7,9 +9,8 @@ use Prim.Native.Nat.{ℕ, ◌≤◌, ◌<◌}
 use native.Mathlib.Omega.{arith}
 use native.Mathlib.Decide.{dec_lt}
 use lib.ListN.{length, get_or, replicate}
-use Rattle.model.specs.declared.Searched.TheVariants.{Planned, Refused}
 use Rattle.model.specs.Bits.{bit}
-use Rattle.model.specs.Verdict.{refusal}
+use Rattle.model.specs.Refusal.{refusal}
 use Rattle.model.specs.job.Job.{Job}
 use Rattle.model.specs.job.Layout.{action_count, job_of}
 use Rattle.model.specs.job.Rights.{usable_bits}
@@ -86,7 +87,7 @@ not_noticed full a b needs rights fine_a fine_b alike = record {
       (x.said ∙ ap (λ (e : SearchEnd). search_numbers e.result) d ∙ sym y.said, ap (λ (e : SearchEnd). e.table) d, ap (λ (e : SearchEnd). e.plan) d);
   parts = λ x y.
       let d = same x.ends y.ends in (
-        x.said ∙ ap (λ (e : SearchEnd). search_numbers e.result) d ∙ sym y.said,
+        x.said ∙ ap (λ (e : SearchEnd). e.result) d ∙ sym y.said,
         x.table_is ∙ ap (λ (e : SearchEnd). e.table) d ∙ sym y.table_is,
         x.part_is ∙ ap part_of d ∙ sym y.part_is,
       );
@@ -111,7 +112,7 @@ module _ (job needs : List ℕ) (r s : ℕ) (unhinted : (job_of job).hints ≡ [
   -- a plan that costs at most c is handed over, or it is longer than the buffer
   abbrev AtMost : List ℕ → SearchEnd → ℕ → Type 0
   AtMost buffer f c =
-      ((d : ℕ) × (m : ℕ) × (f.result ≡ Planned d m) × (d ≤ c)) ⊎ ((m : ℕ) × (f.result ≡ Refused (refusal 13 m)) × (length buffer < m))
+      ((d : ℕ) × (m : ℕ) × (f.result ≡ Ok (planned d m)) × (d ≤ c)) ⊎ ((m : ℕ) × (f.result ≡ Err (refusal 13 m)) × (length buffer < m))
 
   handed : {table buffer : List ℕ} {f : SearchEnd} → AnswersJob (call job needs s) table buffer f → Other f → {d c : ℕ} {q : List ℕ}
       → IsPlan (call job needs s) d q → d ≤ c → AtMost buffer f c

@@ -1,60 +1,36 @@
 -- When two results are the same, and when they cannot be.
-use mathlib.Core.Path.{◌≡◌}
-use mathlib.Core.List.{List}
-use Prim.Native.Nat.{ℕ}
-use native.Mathlib.Omega.{arith}
-use Rattle.model.specs.declared.Refusal.{Refusal}
-use Rattle.model.specs.declared.Verdict.TheVariants.{Fine, Bad}
-use Rattle.model.specs.declared.Searched.TheVariants.{Planned, Refused}
-use Rattle.model.specs.declared.Validated.TheVariants.{Passed, Refused as NotPassed}
-use Rattle.model.specs.declared.Rewritten.TheVariants.{Written, Refused as NotWritten}
+use Rattle.std.proofs.Common.{◌≡◌, ap, ℕ, List, Result, Ok, Err}
+use Rattle.model.specs.declared.Planned.{Planned}
+use Rattle.model.specs.declared.Passed.{Passed}
+use Rattle.model.specs.Results.{planned, passed, Searched, Validated}
 use Rattle.model.specs.exploration.Equations.{plan, no_plan}
 
--- ---- checks
+module _ {T E : Type 0} where
+  pub ok_not_err : {A : Type 0} {x : T} {r : E} → ◌≡◌ {A = Result T E} (Ok x) (Err r) → A
+  ok_not_err e = cc
 
-pub fine_not_bad : {A : Type 0} {r : Refusal} → Fine ≡ Bad r → A
-fine_not_bad e = let z : ◌≡◌ {A = ℕ} 0 1 = cc in absurd (omega arith)
+  pub err_not_ok : {A : Type 0} {x : T} {r : E} → ◌≡◌ {A = Result T E} (Err r) (Ok x) → A
+  err_not_ok e = cc
 
-pub same_bad : {r q : Refusal} → Bad r ≡ Bad q → r ≡ q
-same_bad e = cc
+  pub same_ok : {x y : T} → ◌≡◌ {A = Result T E} (Ok x) (Ok y) → x ≡ y
+  same_ok e = cc
+
+  pub same_err : {r q : E} → ◌≡◌ {A = Result T E} (Err r) (Err q) → r ≡ q
+  same_err e = cc
+
+-- Plans that are the same have the same cost and number of steps, and passed lists the same cost and bits.
+pub same_planned : {c d n m : ℕ} → ◌≡◌ {A = Searched} (Ok (planned c n)) (Ok (planned d m)) → (c ≡ d) × (n ≡ m)
+same_planned {c} {d} {n} {m} e =
+    let f = same_ok {x = planned c n} {y = planned d m} e in (ap (λ (x : Planned). x.cost) f, ap (λ (x : Planned). x.steps) f)
+
+pub same_passed : {c d a b : ℕ} → ◌≡◌ {A = Validated} (Ok (passed c a)) (Ok (passed d b)) → (c ≡ d) × (a ≡ b)
+same_passed {c} {d} {a} {b} e =
+    let f = same_ok {x = passed c a} {y = passed d b} e in (ap (λ (x : Passed). x.cost) f, ap (λ (x : Passed). x.hints) f)
 
 -- ---- answers of the equations
 
 pub plan_not_none : {A : Type 0} {c k : ℕ} {p : List ℕ} → plan c p ≡ no_plan k → A
-plan_not_none e = let z : ◌≡◌ {A = ℕ} 0 1 = cc in absurd (omega arith)
+plan_not_none e = cc
 
 pub none_not_plan : {A : Type 0} {c k : ℕ} {p : List ℕ} → no_plan k ≡ plan c p → A
-none_not_plan e = let z : ◌≡◌ {A = ℕ} 0 1 = cc in absurd (omega arith)
-
--- ---- a search
-
-pub planned_not_refused : {A : Type 0} {c n : ℕ} {r : Refusal} → Planned c n ≡ Refused r → A
-planned_not_refused e = let z : ◌≡◌ {A = ℕ} 0 1 = cc in absurd (omega arith)
-
-pub refused_not_planned : {A : Type 0} {c n : ℕ} {r : Refusal} → Refused r ≡ Planned c n → A
-refused_not_planned e = let z : ◌≡◌ {A = ℕ} 0 1 = cc in absurd (omega arith)
-
-pub same_refused : {r q : Refusal} → Refused r ≡ Refused q → r ≡ q
-same_refused e = cc
-
--- ---- a read-through
-
-pub passed_not_refused : {A : Type 0} {c b : ℕ} {r : Refusal} → Passed c b ≡ NotPassed r → A
-passed_not_refused e = let z : ◌≡◌ {A = ℕ} 0 1 = cc in absurd (omega arith)
-
-pub refused_not_passed : {A : Type 0} {c b : ℕ} {r : Refusal} → NotPassed r ≡ Passed c b → A
-refused_not_passed e = let z : ◌≡◌ {A = ℕ} 0 1 = cc in absurd (omega arith)
-
--- ---- writing back
-
-pub written_not_refused : {A : Type 0} {n : ℕ} {r : Refusal} → Written n ≡ NotWritten r → A
-written_not_refused e = let z : ◌≡◌ {A = ℕ} 0 1 = cc in absurd (omega arith)
-
-pub refused_not_written : {A : Type 0} {n : ℕ} {r : Refusal} → NotWritten r ≡ Written n → A
-refused_not_written e = let z : ◌≡◌ {A = ℕ} 0 1 = cc in absurd (omega arith)
-
-pub same_written : {n m : ℕ} → Written n ≡ Written m → n ≡ m
-same_written e = cc
-
-pub same_not_written : {r q : Refusal} → NotWritten r ≡ NotWritten q → r ≡ q
-same_not_written e = cc
+none_not_plan e = cc

@@ -1,4 +1,5 @@
 -- Demand 2, writing back: what is written means what the rule means.
+use Rattle.std.proofs.Common.{Ok, Err}
 use mathlib.Core.Path.{◌≡◌, refl, sym, ap, ◌∙◌, subst}
 use mathlib.Core.Bool.{Bool, true, false}
 use mathlib.Core.Logic.{◌↔◌}
@@ -9,11 +10,8 @@ use lib.Dec.{leb}
 use lib.ListN.{length, drop}
 use lib.Seq.{take_at, drop_at}
 use borrow.Author.Tests.{leb-false, le-leb}
-use Rattle.model.specs.declared.Refusal.{Refusal}
-use Rattle.model.specs.declared.Verdict.{Verdict}
-use Rattle.model.specs.declared.Verdict.TheVariants.{Fine, Bad}
-use Rattle.model.specs.declared.Rewritten.TheVariants.{Written}
-use Rattle.model.specs.Verdict.{refusal}
+use Rattle.model.specs.Refusal.{Refusal, refusal}
+use Rattle.model.specs.Verdict.{no_refusal, Verdict}
 use Rattle.model.specs.logic.Formula.{Formula, encode}
 use Rattle.model.specs.logic.Reading.{formula}
 use Rattle.model.specs.logic.Truth.{World, holds}
@@ -28,7 +26,7 @@ use Rattle.model.proofs.logic.EncodingLaws.{length-encode, parsed_fits, section_
 use Rattle.model.proofs.calls.RuleLaws.{FineRule, rule_fine}
 use Rattle.demands.specs.Demand1.{Between}
 use Rattle.demands.specs.Demand2.{Rewrites, WritesBack}
-use Rattle.demands.proofs.Results.{written_not_refused, refused_not_written, same_written, same_not_written}
+use Rattle.demands.proofs.Results.{ok_not_err, err_not_ok, same_ok, same_err}
 use Rattle.demands.proofs.Numbered.{rule_numbered}
 
 -- Wherever there is a world, the normal form holds exactly where the formula does.
@@ -70,7 +68,7 @@ module _ (v a : ℕ) (rule : List ℕ) (fine : FineRule v a rule) where
 
 module _ (v a : ℕ) (rule out : List ℕ) (new : Rewrites v a rule out) (is : (long : List ℕ) → written_back v a rule long ≡ into out long) where
   -- A buffer that is long enough is written to.
-  long_enough : (long : List ℕ) → length out ≤ length long → into out long ≡ write_end (Written (length out)) (out ++ drop (length out) long)
+  long_enough : (long : List ℕ) → length out ≤ length long → into out long ≡ write_end (Ok (length out)) (out ++ drop (length out) long)
   unfolding into written_over
   long_enough long l = rw (le-leb (length out) (length long) l, into)
 
@@ -80,29 +78,29 @@ module _ (v a : ℕ) (rule out : List ℕ) (new : Rewrites v a rule out) (is : (
     where
       go : (b : Bool) → leb (length out) (length buffer) ≡ b → WritesBack v a rule buffer (into out buffer)
       go true e = rw (e, into) (record {
-        written = λ {n} h. subst (Rewrites v a rule) (sym (take_at out (drop (length out) buffer) n (same_written h))) new;
-        size = λ {n} h. ap length (take_at out (drop (length out) buffer) n (same_written h)) ∙ same_written h;
-        rest = λ {n} h. drop_at out (drop (length out) buffer) n (same_written h) ∙ ap (λ (k : ℕ). drop k buffer) (same_written h);
-        needed = λ h. written_not_refused h;
+        written = λ {n} h. subst (Rewrites v a rule) (sym (take_at out (drop (length out) buffer) n (same_ok h))) new;
+        size = λ {n} h. ap length (take_at out (drop (length out) buffer) n (same_ok h)) ∙ same_ok h;
+        rest = λ {n} h. drop_at out (drop (length out) buffer) n (same_ok h) ∙ ap (λ (k : ℕ). drop k buffer) (same_ok h);
+        needed = λ h. ok_not_err h;
       })
       go false e = rw (e, into) (record {
-        written = λ h. refused_not_written h;
-        size = λ h. refused_not_written h;
-        rest = λ h. refused_not_written h;
+        written = λ h. err_not_ok h;
+        size = λ h. err_not_ok h;
+        rest = λ h. err_not_ok h;
         needed = λ {n} h.
-            let d : length out ≡ n = ap (λ (x : Refusal). x.place) (same_not_written {r = refusal 13 (length out)} {q = refusal 13 n} h) in (
+            let d : length out ≡ n = ap (λ (x : Refusal). x.place) (same_err {r = refusal 13 (length out)} {q = refusal 13 n} h) in (
               omega (arith, leb-false (length out) (length buffer) e),
-              λ long l. ap (λ (x : WriteEnd). x.result) (is long ∙ long_enough long (omega arith)) ∙ ap Written d,
+              λ long l. ap (λ (x : WriteEnd). x.result) (is long ∙ long_enough long (omega arith)) ∙ ap Ok d,
             );
       })
 
 module _ (v a : ℕ) (rule : List ℕ) where
   -- A rule that passes is written as the bytes of its normal form, or refused with 13.
-  fine_is : (fine : FineRule v a rule) → rule_verdict v a rule ≡ Fine → (long : List ℕ) → written_back v a rule long ≡ into (bytes v a rule fine) long
+  fine_is : (fine : FineRule v a rule) → rule_verdict v a rule ≡ no_refusal → (long : List ℕ) → written_back v a rule long ≡ into (bytes v a rule fine) long
   unfolding written_back rewritten
   fine_is fine e long = rw (e, written_back, fine.reads)
 
-  not_thirteen : (q : Refusal) → rule_verdict v a rule ≡ Bad q → {n : ℕ} → q ≡ refusal 13 n → ⊥
+  not_thirteen : (q : Refusal) → rule_verdict v a rule ≡ Err q → {n : ℕ} → q ≡ refusal 13 n → ⊥
   not_thirteen q e d =
       let n =
       rule_numbered (Between 1 5) (omega arith, omega arith) (omega arith, omega arith) (omega arith, omega arith) (omega arith, omega arith) v a rule q e in
@@ -113,12 +111,12 @@ module _ (v a : ℕ) (rule : List ℕ) where
   writes_back buffer = go (rule_verdict v a rule) refl
     where
       go : (x : Verdict) → rule_verdict v a rule ≡ x → WritesBack v a rule buffer (written_back v a rule buffer)
-      go Fine e =
+      go (Ok _) e =
           let f = rule_fine v a rule e in
           subst (WritesBack v a rule buffer) (sym (fine_is f e buffer)) (goes_in v a rule (bytes v a rule f) (rewrites v a rule f) (fine_is f e) buffer)
-      go (Bad q) e = rw (e, written_back) (record {
-        written = λ h. refused_not_written h;
-        size = λ h. refused_not_written h;
-        rest = λ h. refused_not_written h;
-        needed = λ h. absurd (not_thirteen q e (same_not_written h));
+      go (Err q) e = rw (e, written_back) (record {
+        written = λ h. err_not_ok h;
+        size = λ h. err_not_ok h;
+        rest = λ h. err_not_ok h;
+        needed = λ h. absurd (not_thirteen q e (same_err h));
       })

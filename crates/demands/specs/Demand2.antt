@@ -1,11 +1,10 @@
 -- Demand 2: every reading of a rule is that of linear temporal logic on finite traces; read-through, writing back and hints as document 01 says.
-use Rattle.std.specs.Prelude.{◌≡◌, true, false, ◌↔◌, ℕ, ◌+◌, ◌*◌, ◌^◌, ◌≤◌, ◌<◌, length, get_or, take, drop}
+use Rattle.std.specs.Prelude.{Ok, Err, ◌≡◌, true, false, ◌↔◌, ℕ, ◌+◌, ◌*◌, ◌^◌, ◌≤◌, ◌<◌, length, get_or, take, drop}
+use Rattle.model.specs.Results.{passed}
 use mathlib.Core.List.{List, [], ◌∷◌, ◌++◌, map, Memᴰ}
 use Rattle.model.specs.declared.Constant.TheVariants.{False}
-use Rattle.model.specs.declared.Validated.TheVariants.{Passed}
-use Rattle.model.specs.declared.Rewritten.TheVariants.{Written, Refused as NotWritten}
 use Rattle.model.specs.Bits.{bit}
-use Rattle.model.specs.Verdict.{refusal}
+use Rattle.model.specs.Refusal.{refusal}
 use Rattle.model.specs.logic.Formula.{Formula, constant, encode}
 use Rattle.model.specs.logic.Reading.{formula, section}
 use Rattle.model.specs.logic.Parts.{most_parts, parts_of}
@@ -60,15 +59,15 @@ Bytes xs = (b : ℕ) → Memᴰ b xs → b < 256
 pub record ReadsThrough (call : Call) (p : List ℕ) : Type 0 where
   -- A list of at most 65,535 steps passes in a call that is taken, with any cost and bits, exactly when it is an allowed plan of the job as it is to the
   -- caller.
-  pub passes : Taken call → length p ≤ 65_535 → ((c : ℕ) × (b : ℕ) × (validated call p ≡ Passed c b)) ↔ AllowedPlan (caller_job call) p
-  pub only : {c b : ℕ} → validated call p ≡ Passed c b → Taken call × (length p ≤ 65_535)
+  pub passes : Taken call → length p ≤ 65_535 → ((c : ℕ) × (b : ℕ) × (validated call p ≡ Ok (passed c b))) ↔ AllowedPlan (caller_job call) p
+  pub only : {c b : ℕ} → validated call p ≡ Ok (passed c b) → Taken call × (length p ≤ 65_535)
   -- The cost is the list's own, and "a cost sum is at most 65,535 × 65,535".
-  pub cost : {c b : ℕ} → validated call p ≡ Passed c b → c ≡ cost_of (job_of call.bytes) p
-  pub cost_most : Bytes call.bytes → {c b : ℕ} → validated call p ≡ Passed c b → c ≤ 65_535 * 65_535
+  pub cost : {c b : ℕ} → validated call p ≡ Ok (passed c b) → c ≡ cost_of (job_of call.bytes) p
+  pub cost_most : Bytes call.bytes → {c b : ℕ} → validated call p ≡ Ok (passed c b) → c ≤ 65_535 * 65_535
   -- "8 bits, bit i set exactly if the job has a hint i and the worlds meet it"
-  pub bits : {c b : ℕ} → validated call p ≡ Passed c b → (i : ℕ) → let j = job_of call.bytes in
+  pub bits : {c b : ℕ} → validated call p ≡ Ok (passed c b) → (i : ℕ) → let j = job_of call.bytes in
       (bit b i ≡ true) ↔ ((i < length j.hints) × Sat (worlds j p) 0 (get_or j.hints i (constant False)))
-  pub eight : {c b : ℕ} → validated call p ≡ Passed c b → b < 2 ^ 8
+  pub eight : {c b : ℕ} → validated call p ≡ Ok (passed c b) → b < 2 ^ 8
 
 -- ---- writing back
 
@@ -84,13 +83,13 @@ pub record Rewrites (v a : ℕ) (rule bytes : List ℕ) : Type 0 where
   pub unchanged : positive given ≡ true → bytes ≡ rule
 
 pub record WritesBack (v a : ℕ) (rule buffer : List ℕ) (e : WriteEnd) : Type 0 where
-  pub written : {n : ℕ} → e.result ≡ Written n → Rewrites v a rule (take n e.buffer)
-  pub size : {n : ℕ} → e.result ≡ Written n → length (take n e.buffer) ≡ n
+  pub written : {n : ℕ} → e.result ≡ Ok n → Rewrites v a rule (take n e.buffer)
+  pub size : {n : ℕ} → e.result ≡ Ok n → length (take n e.buffer) ≡ n
   -- "bytes behind the written rule keep their values"
-  pub rest : {n : ℕ} → e.result ≡ Written n → drop n e.buffer ≡ drop n buffer
+  pub rest : {n : ℕ} → e.result ≡ Ok n → drop n e.buffer ≡ drop n buffer
   -- 13 comes where the buffer is shorter than the written rule, and its place is the length that a buffer needs.
-  pub needed : {n : ℕ} → e.result ≡ NotWritten (refusal 13 n)
-      → (length buffer < n) × ((long : List ℕ) → n ≤ length long → (written_back v a rule long).result ≡ Written n)
+  pub needed : {n : ℕ} → e.result ≡ Err (refusal 13 n)
+      → (length buffer < n) × ((long : List ℕ) → n ≤ length long → (written_back v a rule long).result ≡ Ok n)
 
 -- ---- an accepted job
 

@@ -1,10 +1,8 @@
 -- Demand 3: every answer of a search is the job's plan, the cheapest, then shortest, then first; "no plan" comes exactly when there is none, and
 -- "table too small" only when it is. The job is meant as it is to the caller, with the steps alone that the caller may use (card 4).
-use Rattle.std.specs.Prelude.{◌≡◌, ◌⊎◌, List, [], ℕ, ◌*◌, ◌≤◌, ◌<◌, length, take, drop}
-use Rattle.model.specs.declared.Refusal.{Refusal}
-use Rattle.model.specs.declared.Searched.{Searched}
-use Rattle.model.specs.declared.Searched.TheVariants.{Planned, Refused}
-use Rattle.model.specs.Verdict.{refusal}
+use Rattle.std.specs.Prelude.{Ok, Err, ◌≡◌, ◌⊎◌, List, [], ℕ, ◌*◌, ◌≤◌, ◌<◌, length, take, drop}
+use Rattle.model.specs.Results.{planned, Searched}
+use Rattle.model.specs.Refusal.{Refusal, refusal}
 use Rattle.model.specs.job.Layout.{job_of}
 use Rattle.model.specs.task.Plan.{cost_of, Best, MeetsHints}
 use Rattle.model.specs.exploration.Equations.{plan, no_plan}
@@ -20,7 +18,7 @@ NoPlan k = (k ≡ 11) ⊎ (k ≡ 12)
 
 -- "'Table too small' is 10": every other answer is not 10.
 abbrev pub Other : SearchEnd → Type 0
-Other e = (p : ℕ) → e.result ≡ Refused (refusal 10 p) → ⊥
+Other e = (p : ℕ) → e.result ≡ Err (refusal 10 p) → ⊥
 
 -- The list p is the plan of a job, as it is to the caller, with the cost c.
 pub record IsPlan (call : Call) (c : ℕ) (p : List ℕ) : Type 0 where
@@ -52,50 +50,50 @@ pub record Told (call : Call) (buffer : List ℕ) (n : ℕ) : Type 0 where
 
 -- the results of a call that is taken
 pub data Result : Searched → Type 0 where
-  plan_handed : (c n : ℕ) → Result (Planned c n)
-  table_small : Result (Refused (refusal 10 0))
-  some_cut : Result (Refused (refusal 11 0))
-  none_cut : Result (Refused (refusal 12 0))
-  plan_longer : (n : ℕ) → Result (Refused (refusal 13 n))
+  plan_handed : (c n : ℕ) → Result (Ok (planned c n))
+  table_small : Result (Err (refusal 10 0))
+  some_cut : Result (Err (refusal 11 0))
+  none_cut : Result (Err (refusal 12 0))
+  plan_longer : (n : ℕ) → Result (Err (refusal 13 n))
 
 pub record AnswersJob (call : Call) (table buffer : List ℕ) (e : SearchEnd) : Type 0 where
   pub results : Taken call → Result e.result
   -- ---- what each answer says
 
-  pub plans : {c n : ℕ} → e.result ≡ Planned c n → Handed call buffer e c n
+  pub plans : {c n : ℕ} → e.result ≡ Ok (planned c n) → Handed call buffer e c n
   -- From a table that is large enough it has at most 65,535 steps: "a cost sum is at most 65,535 × 65,535".
-  pub steps_most : (Outnumbered call table → ⊥) → {c n : ℕ} → e.result ≡ Planned c n → (n ≤ 65_535) × (Bytes call.bytes → c ≤ 65_535 * 65_535)
-  pub has_none : {k p : ℕ} → NoPlan k → e.result ≡ Refused (refusal k p) → Taken call × (solve_job (caller_job call) ≡ no_plan k)
+  pub steps_most : (Outnumbered call table → ⊥) → {c n : ℕ} → e.result ≡ Ok (planned c n) → (n ≤ 65_535) × (Bytes call.bytes → c ≤ 65_535 * 65_535)
+  pub has_none : {k p : ℕ} → NoPlan k → e.result ≡ Err (refusal k p) → Taken call × (solve_job (caller_job call) ≡ no_plan k)
   -- 12 says that no plan is allowed, of a job with hints too, since none of its nodes was cut.
-  pub twelve_none : {p : ℕ} → e.result ≡ Refused (refusal 12 p) → (q : List ℕ) → AllowedPlan (caller_job call) q → ⊥
+  pub twelve_none : {p : ℕ} → e.result ≡ Err (refusal 12 p) → (q : List ℕ) → AllowedPlan (caller_job call) q → ⊥
   -- "13 comes with that path's length as its place"
-  pub only_length : {n : ℕ} → e.result ≡ Refused (refusal 13 n) → Told call buffer n
+  pub only_length : {n : ℕ} → e.result ≡ Err (refusal 13 n) → Told call buffer n
   -- 10 comes only "when the pairs reached outnumber the places".
-  pub too_small : {p : ℕ} → e.result ≡ Refused (refusal 10 p) → Taken call × (slots_in table < reached_count (caller_job call))
+  pub too_small : {p : ℕ} → e.result ≡ Err (refusal 10 p) → Taken call × (slots_in table < reached_count (caller_job call))
   pub large_enough : (Outnumbered call table → ⊥) → Other e
   -- ---- when each answer comes, where it is not 10
 
   -- A plan that fits is handed over, of every job.
   pub plan_comes : Taken call → Other e → {c : ℕ} {p : List ℕ} → solve_job (caller_job call) ≡ plan c p → length p ≤ length buffer
-      → (e.result ≡ Planned c (length p)) × (take (length p) e.plan ≡ p)
+      → (e.result ≡ Ok (planned c (length p))) × (take (length p) e.plan ≡ p)
   -- 13 comes where the plan is longer than the buffer.
   pub thirteen_comes : Taken call → Other e → {c : ℕ} {p : List ℕ} → solve_job (caller_job call) ≡ plan c p → length buffer < length p
-      → e.result ≡ Refused (refusal 13 (length p))
+      → e.result ≡ Err (refusal 13 (length p))
   -- "No plan" comes where the job has none.
-  pub none_comes : Taken call → Other e → {k : ℕ} → solve_job (caller_job call) ≡ no_plan k → NoPlan k × (e.result ≡ Refused (refusal k 0))
+  pub none_comes : Taken call → Other e → {k : ℕ} → solve_job (caller_job call) ≡ no_plan k → NoPlan k × (e.result ≡ Err (refusal k 0))
   -- ---- "A job without hints, and one whose every allowed plan of least cost meets all its hints"
 
   pub without_hints : (job_of call.bytes).hints ≡ [] → MeetsHints (caller_job call)
   -- "without hints always 12"
-  pub without_hints_12 : (job_of call.bytes).hints ≡ [] → {k p : ℕ} → NoPlan k → e.result ≡ Refused (refusal k p) → k ≡ 12
+  pub without_hints_12 : (job_of call.bytes).hints ≡ [] → {k p : ℕ} → NoPlan k → e.result ≡ Err (refusal k p) → k ≡ 12
   pub best_comes : Taken call → Other e → MeetsHints (caller_job call) → (p : List ℕ) → Best (caller_job call) p → length p ≤ length buffer
-      → (e.result ≡ Planned (cost_of (caller_job call) p) (length p)) × (take (length p) e.plan ≡ p)
+      → (e.result ≡ Ok (planned (cost_of (caller_job call) p) (length p))) × (take (length p) e.plan ≡ p)
   -- "has none exactly if none is allowed"
-  pub none_allowed : MeetsHints (caller_job call) → {k p : ℕ} → NoPlan k → e.result ≡ Refused (refusal k p) → (q : List ℕ) → AllowedPlan (caller_job call) q → ⊥
+  pub none_allowed : MeetsHints (caller_job call) → {k p : ℕ} → NoPlan k → e.result ≡ Err (refusal k p) → (q : List ℕ) → AllowedPlan (caller_job call) q → ⊥
   pub none_allowed_comes : Taken call → Other e → MeetsHints (caller_job call) → ((q : List ℕ) → AllowedPlan (caller_job call) q → ⊥)
-      → (k : ℕ) × NoPlan k × (e.result ≡ Refused (refusal k 0))
+      → (k : ℕ) × NoPlan k × (e.result ≡ Err (refusal k 0))
 
 -- The part of the plan buffer that `search::planned` hands back is the plan, and empty on a refusal.
 pub record PartIs (call : Call) (buffer : List ℕ) (e : SearchEnd) (part : List ℕ) : Type 0 where
-  pub plan_part : {c n : ℕ} → e.result ≡ Planned c n → Handed call buffer e c n × (part ≡ take n e.plan)
-  pub empty_part : {r : Refusal} → e.result ≡ Refused r → part ≡ []
+  pub plan_part : {c n : ℕ} → e.result ≡ Ok (planned c n) → Handed call buffer e c n × (part ≡ take n e.plan)
+  pub empty_part : {r : Refusal} → e.result ≡ Err r → part ≡ []

@@ -1,8 +1,6 @@
 -- Card 2, an estimate of what is left: what is claimed of the estimate of every job, as it is to the caller, and of every search.
-use Rattle.std.specs.Prelude.{◌≡◌, List, ◌++◌, ℕ}
-use Rattle.std.proofs.Math.Option.{none}
-use Rattle.model.specs.declared.Searched.TheVariants.{Refused}
-use Rattle.model.specs.Verdict.{refusal}
+use Rattle.std.specs.Prelude.{Err, ◌≡◌, List, ◌++◌, ℕ, None}
+use Rattle.model.specs.Refusal.{refusal}
 use Rattle.model.specs.task.Plan.{state_after, cost_of}
 use Rattle.model.specs.exploration.Explore.{solve}
 use Rattle.model.specs.exploration.Guided.{Stays}
@@ -28,4 +26,4 @@ pub record Estimates (call : Call) : Type 0 where
 
 -- Where the start pair has no estimate, it "counts as not reached" like any other: a search gives 12, from any table.
 abbrev pub StartUnreached : Call → SearchEnd → Type 0
-StartUnreached call e = Taken call → estimate_of (caller_job call) (caller_job call).start ≡ none → e.result ≡ Refused (refusal 12 0)
+StartUnreached call e = Taken call → estimate_of (caller_job call) (caller_job call).start ≡ None → e.result ≡ Err (refusal 12 0)

@@ -1,10 +1,9 @@
 -- Card 4, who may sand: what is claimed of a caller's rights, of every call.
-use Rattle.std.specs.Prelude.{◌≡◌, Bool, true, false, ◌↔◌, ◌⊎◌, ℕ, ◌≤◌, ◌<◌, length, get_or, replicate}
-use Rattle.std.proofs.Math.Option.{none}
+use Rattle.std.specs.Prelude.{Ok, Err, ◌≡◌, Bool, true, false, ◌↔◌, ◌⊎◌, ℕ, ◌≤◌, ◌<◌, length, get_or, replicate, None}
+use Rattle.model.specs.Results.{Searched, planned}
 use mathlib.Core.List.{List, [], Memᴰ}
-use Rattle.model.specs.declared.Searched.TheVariants.{Planned, Refused}
 use Rattle.model.specs.Bits.{bit}
-use Rattle.model.specs.Verdict.{refusal}
+use Rattle.model.specs.Refusal.{refusal}
 use Rattle.model.specs.job.Job.{Job, action_of}
 use Rattle.model.specs.job.Layout.{action_count, job_of}
 use Rattle.model.specs.job.Rights.{usable_bits, Alike}
@@ -32,7 +31,7 @@ pub record RightsOf (by : Call) : Type 0 where
       ↔ (AllowedPlan (job_of by.bytes) p × ((i : ℕ) → Memᴰ i p → bit (usable_in by) i ≡ true))
   pub costs : (p : List ℕ) → AllowedPlan (caller_job by) p → cost_of (caller_job by) p ≡ cost_of (job_of by.bytes) p
   -- "no other step leads to a pair", and those lead where they lead in the job
-  pub no_pair : (n : Node) (i : ℕ) → i < length (job_of by.bytes).actions → bit (usable_in by) i ≡ false → next_node (caller_job by) n i ≡ none
+  pub no_pair : (n : Node) (i : ℕ) → i < length (job_of by.bytes).actions → bit (usable_in by) i ≡ false → next_node (caller_job by) n i ≡ None
   pub own_pair : (n : Node) (i : ℕ) → bit (usable_in by) i ≡ true → next_node (caller_job by) n i ≡ next_node (job_of by.bytes) n i
   -- "and the estimate counts only those": step i adds fact f at a cost of at most t, as the estimate's equations ask, exactly if the caller may use it and it
   -- does so in the job
@@ -53,11 +52,11 @@ pub record NotNoticed (full : Job → ℕ → Bool) (a b needs : List ℕ) (righ
       → SearchAnswers full (call a needs rights) table buffer table_a buffer_a numbers_a
       → SearchAnswers full (call b needs rights) table buffer table_b buffer_b numbers_b
       → (numbers_a ≡ numbers_b) × (table_a ≡ table_b) × (buffer_a ≡ buffer_b)
-  -- of `search::planned`: the numbers, the table and the part of the plan buffer that holds the steps
-  pub parts : {table buffer table_a part_a numbers_a table_b part_b numbers_b : List ℕ}
-      → PartGiven full (call a needs rights) table buffer table_a part_a numbers_a
-      → PartGiven full (call b needs rights) table buffer table_b part_b numbers_b
-      → (numbers_a ≡ numbers_b) × (table_a ≡ table_b) × (part_a ≡ part_b)
+  -- of `search::planned`: the result, the table and the part of the plan buffer that holds the steps
+  pub parts : {table buffer table_a part_a table_b part_b : List ℕ} {result_a result_b : Searched}
+      → PartGiven full (call a needs rights) table buffer table_a part_a result_a
+      → PartGiven full (call b needs rights) table buffer table_b part_b result_b
+      → (result_a ≡ result_b) × (table_a ≡ table_b) × (part_a ≡ part_b)
 
 abbrev pub Private : Type 0
 Private = (full : Job → ℕ → Bool) (a b needs : List ℕ) (rights : ℕ) → Accepted a → Accepted b → Alike (usable_bits needs rights) (job_of a) (job_of b)
@@ -69,8 +68,8 @@ pub record NeverDearer (full : Job → ℕ → Bool) (job needs : List ℕ) (r s
   pub plans : {c : ℕ} {p : List ℕ} → IsPlan (call job needs r) c p → (d : ℕ) × (q : List ℕ) × IsPlan (call job needs s) d q × (d ≤ c)
   -- of `search::search`, in any tables and buffers: a plan that is as cheap or cheaper is handed over, or it is longer than the buffer
   pub answers : {table buffer table' buffer' : List ℕ} {e f : SearchEnd} → SearchEnds full (call job needs r) table buffer e
-      → SearchEnds full (call job needs s) table' buffer' f → Other f → {c n : ℕ} → e.result ≡ Planned c n
-      → ((d : ℕ) × (m : ℕ) × (f.result ≡ Planned d m) × (d ≤ c)) ⊎ ((m : ℕ) × (f.result ≡ Refused (refusal 13 m)) × (length buffer' < m))
+      → SearchEnds full (call job needs s) table' buffer' f → Other f → {c n : ℕ} → e.result ≡ Ok (planned c n)
+      → ((d : ℕ) × (m : ℕ) × (f.result ≡ Ok (planned d m)) × (d ≤ c)) ⊎ ((m : ℕ) × (f.result ≡ Err (refusal 13 m)) × (length buffer' < m))
 
 abbrev pub FurtherRights : Type 0
 FurtherRights = (full : Job → ℕ → Bool) (job needs : List ℕ) (r s : ℕ) → (job_of job).hints ≡ [] → within r s ≡ true → NeverDearer full job needs r s

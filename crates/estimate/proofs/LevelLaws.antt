@@ -1,141 +1,92 @@
 -- The turns: with each the level rises to the soonest gain, and what the turns that are left come to is the estimate.
-use mathlib.Core.Path.{◌≡◌, refl, sym, ap, ◌∙◌}
-use mathlib.Core.Logic.{inl, inr}
-use Prim.Native.Nat.{ℕ, suc, ◌-◌, ◌*◌, ◌≤◌, ◌<◌}
-use native.Mathlib.Omega.{arith}
-use native.Mathlib.Decide.{dec_lt}
-use mathlib.Core.Bool.{true, false}
-use mathlib.Core.Option.{Option, none, some}
-use mathlib.Core.List.{List, []}
-use lib.Bits.{bit_or}
-use lib.ListN.{length, get_or, replicate, length-replicate, get_or-replicate, get_or-eq_default}
+use Rattle.std.proofs.Common.{◌≡◌, refl, sym, ap, ◌∙◌, ℕ, zero, suc, ◌-◌, ◌*◌, ◌≤◌, ◌<◌, arith, true, false, Option, None, Some, [], length, get_or, replicate}
+use Rattle.std.proofs.Common.{bit_or}
+use Rattle.std.proofs.lemmas.Option.{IfSome_then}
 use Rattle.model.specs.job.Job.{Job}
 use Rattle.model.specs.task.State.{within}
 use Rattle.model.specs.search.Estimate.{Ends, Gain, end_of, readied, soonest, level_from, level_of, estimate_of}
-use Rattle.model.proofs.job.VerdictLaws.{get_or-list_of, list_of_cong}
-use Rattle.estimate.specs.declared.Gain as code
-use Rattle.estimate.specs.declared.Estimated.TheVariants.{Cost, Nothing}
-use Rattle.estimate.specs.Meaning.{never, dearest, end_is, ends_is, Estimates}
-use Rattle.estimate.specs.Turns.{Low, AllLow, ends_at, Passed}
-use Rattle.estimate.proofs.EndLaws.{end_none, all_low_more}
-use Rattle.estimate.proofs.GainLaws.{held, gain_none, gain_some}
-use Rattle.estimate.proofs.AnswerLaws.{answers_cost, answers_nothing}
+use Rattle.model.proofs.job.VerdictLaws.{list_of_cong}
+use Rattle.estimate.specs.Meaning.{dearest, Estimates}
+use Rattle.estimate.specs.Turns.{AllLow, LowGain, Passed}
+use Rattle.estimate.proofs.AnswerLaws.{answers_some, answers_none}
+use Rattle.estimate.proofs.PassLaws.{readied_at}
 
 -- No level or end is above this where so many turns are left.
 abbrev pub ceiling : ℕ → ℕ
 ceiling left = dearest * (65 - left)
 
+no_end : (n k : ℕ) → get_or (replicate {A = Option ℕ} n None) k None ≡ None
+no_end zero k = refl
+no_end (suc n) zero = refl
+no_end (suc n) (suc k) = no_end n k
+
 module _ (j : Job) where
   abbrev A : ℕ
   A = length j.actions
 
-  -- ---- one turn of the definition
-
-  module _ (n goal built level : ℕ) where
-    -- the turn, where the ends at its level are these
-    turn : Ends → Option ℕ
-    turn ends =
-        elim (within goal built) [
-          | true ↦ some level
-          | false ↦ elim (soonest j built ends A) [
-            | none ↦ none
-            | some g ↦ level_from j n goal (bit_or built g.adds) g.level ends
-          ]
+  -- What turns come to depends on the ends of the job's actions alone.
+  level_same : (n goal built level : ℕ) (xs ys : Ends) → ((k : ℕ) → k < A → get_or xs k None ≡ get_or ys k None)
+      → level_from j n goal built level xs ≡ level_from j n goal built level ys
+  unfolding level_from readied
+  level_same zero goal built level xs ys h = refl
+  level_same (suc n) goal built level xs ys h = ap turn (list_of_cong _ _ A (λ k l. ap (λ o. end_of j built level o k) (h k l)))
+    where
+      turn : Ends → Option ℕ
+      turn ends = elim (within goal built) [
+        | true ↦ Some level
+        | false ↦ elim (soonest j built ends A) [
+          | None ↦ None
+          | Some g ↦ level_from j n goal (bit_or built g.adds) g.level ends
         ]
+      ]
 
-    -- It depends on the ends only through those at its level.
-    turn_is : (ends : Ends) → level_from j (suc n) goal built level ends ≡ turn (readied j built level ends)
-    unfolding level_from turn
-    turn_is ends = refl
-
-    turn_done : (ends : Ends) → within goal built ≡ true → turn ends ≡ some level
-    unfolding turn
-    turn_done ends w = rw (turn, w) refl
-
-    turn_none : (ends : Ends) → within goal built ≡ false → soonest j built ends A ≡ none → turn ends ≡ none
-    unfolding turn
-    turn_none ends w e = rw (turn, w, e) refl
-
-    turn_some : (ends : Ends) (g : Gain) → within goal built ≡ false → soonest j built ends A ≡ some g
-        → turn ends ≡ level_from j n goal (bit_or built g.adds) g.level ends
-    unfolding turn
-    turn_some ends g w e = rw (turn, w, e) refl
-
-  -- ---- all turns
-
-  module _ (s : ℕ) where
+  module _ (s goal : ℕ) where
     -- What the turns that are left come to is the estimate.
-    pub record Rising (left built level : ℕ) (ends : List ℕ) : Type 0 where
+    pub record Rising (left built level : ℕ) (ends : Ends) : Type 0 where
       pub few : left ≤ 65
-      pub is : level_from j left j.goal built level (ends_is A ends) ≡ estimate_of j s
+      pub is : level_from j left goal built level ends ≡ estimate_of j s
       pub level_low : level ≤ ceiling left
       pub ends_low : AllLow (ceiling left) ends
 
-    -- The definition begins with no ends, and the code with a list of numbers that stand for none: the ends at a level are the same.
-    readied_first : (built level : ℕ) → A ≤ 64 → readied j built level [] ≡ readied j built level (ends_is A (replicate 64 never))
-    unfolding readied ends_is
-    readied_first built level l =
-        list_of_cong (λ i. end_of j built level (get_or [] i none) i) (λ i. end_of j built level (get_or (ends_is A (replicate 64 never)) i none) i) A
-        (λ i m. ap (λ (o : Option ℕ). end_of j built level o i) (sym (unended i m)))
-      where
-        unended : (i : ℕ) → i < A → get_or (ends_is A (replicate 64 never)) i none ≡ none
-        unended i m =
-            get_or-list_of (λ k. end_is (get_or (replicate 64 never) k 0)) A i none m
-            ∙ end_none (get_or-replicate 64 i never 0 (omega arith))
-
-    pub rising_first : (left : ℕ) → left ≡ suc A → A ≤ 64 → Rising left s 0 (replicate 64 never)
+    -- The definition begins with no ends, and the code with a list of none.
+    pub rising_first : (left : ℕ) → goal ≡ j.goal → left ≡ suc A → A ≤ 64 → Rising left s 0 (replicate 64 None)
     unfolding estimate_of level_of
-    rising_first left e l = record {
+    rising_first left g e l = record {
       few = omega arith;
-      is = ap (λ (k : ℕ). level_from j k j.goal s 0 (ends_is A (replicate 64 never))) e ∙ turn_is A j.goal s 0 (ends_is A (replicate 64 never))
-          ∙ ap (turn A j.goal s 0) (sym (readied_first s 0 l)) ∙ sym (turn_is A j.goal s 0 []);
+      is = rw (g, e) (level_same (suc A) j.goal s 0 (replicate 64 None) [] (λ k l. no_end 64 k));
       level_low = omega arith;
-      ends_low = record { long = length-replicate {A = ℕ} 64 never; each = λ i. first_low i (dec_lt i 64) };
+      ends_low = λ k. rw (no_end 64 k) tt;
     }
-      where
-        first_low : (i : ℕ) → Dec (i < 64) → Low (ceiling left) (get_or (replicate 64 never) i 0)
-        first_low i (yes m) = inl (get_or-replicate 64 i never 0 m)
-        first_low i (no m) =
-            let l : length (replicate 64 never) ≤ i = omega (arith, m, length-replicate {A = ℕ} 64 never) in
-            inr (omega (arith, get_or-eq_default (replicate 64 never) 0 l))
 
-    module _ {left built level : ℕ} {ends : List ℕ} (r : Rising left built level ends) where
-      -- with at least one turn left
-      level_is : 0 < left → estimate_of j s ≡ turn (left - 1) j.goal built level (ends_at j built level ends)
-      level_is l =
-          let e : left ≡ suc (left - 1) = omega arith in
-          sym r.is ∙ ap (λ (k : ℕ). level_from j k j.goal built level (ends_is A ends)) e ∙ turn_is (left - 1) j.goal built level (ends_is A ends)
+    -- No turn is left.
+    pub rising_over : {left built level : ℕ} {ends : Ends} → Rising left built level ends → left ≡ 0 → Estimates j s None
+    unfolding level_from
+    rising_over r e = answers_none j s (sym (rw e at r.is))
 
+    -- ---- at least one turn is left
+
+    module _ {more built level : ℕ} {ends : Ends} (r : Rising (suc more) built level ends) where
       -- The goal is built.
-      pub rising_done : 0 < left → within j.goal built ≡ true → Estimates j s (Cost level)
-      rising_done l w =
-          answers_cost j s level (level_is l ∙ turn_done (left - 1) j.goal built level (ends_at j built level ends) w) (omega (arith, r.level_low))
+      pub rising_done : within goal built ≡ true → Estimates j s (Some level)
+      unfolding level_from
+      rising_done w = answers_some j s level (sym (rw (w, level_from) at r.is)) (omega (arith, r.level_low))
 
       -- Nothing more can be built.
-      pub rising_ends : 0 < left → within j.goal built ≡ false → (after : List ℕ) (g : code.Gain) → Passed j built level ends after g → g.level ≡ never
-          → Estimates j s Nothing
-      rising_ends l w after g p e =
-          answers_nothing j s (level_is l ∙ turn_none (left - 1) j.goal built level (ends_at j built level ends) w (sym p.gain ∙ gain_none g e))
+      pub rising_ends : within goal built ≡ false → {after : Ends} → Passed j built level ends after A None → Estimates j s None
+      unfolding level_from
+      rising_ends w p = answers_none j s (sym (rw (w, ← p.gain, level_from) at r.is))
 
       -- The soonest gain.
-      pub rising_more : 0 < left → within j.goal built ≡ false → (after : List ℕ) (g : code.Gain) → Passed j built level ends after g
-          → (g.level ≡ never → ⊥) → Rising (left - 1) (bit_or built g.adds) g.level after
-      rising_more l w after g p e = record {
+      pub rising_more : within goal built ≡ false → {after : Ends} {g : Gain} → Passed j built level ends after A (Some g)
+          → Rising more (bit_or built g.adds) g.level after
+      unfolding level_from
+      rising_more w {after} {g} p = record {
         few = omega (arith, r.few);
-        is = ap (level_from j (left - 1) j.goal (bit_or built g.adds) g.level) p.ends
-            ∙ sym (level_is l ∙ turn_some (left - 1) j.goal built level (ends_at j built level ends) (held g) w (sym p.gain ∙ gain_some g e));
-        level_low = at_most bounds.1;
+        is = level_same more goal (bit_or built g.adds) g.level after (readied j built level ends)
+            (λ k l. p.ends k l ∙ sym (readied_at j built level ends k l)) ∙ rw (w, ← p.gain, level_from) at r.is;
+        level_low = bounds.1;
         ends_low = bounds.0;
       }
         where
-          bounds : AllLow (ceiling (left - 1)) after × Low (ceiling (left - 1)) g.level
-          bounds = p.low (ceiling (left - 1)) (omega (arith, r.few, r.level_low)) (all_low_more (omega (arith, r.few)) r.ends_low)
-
-          at_most : Low (ceiling (left - 1)) g.level → g.level ≤ ceiling (left - 1)
-          at_most (inl d) = absurd (e d)
-          at_most (inr h) = h
-
-      -- No turn is left.
-      pub rising_over : left ≡ 0 → Estimates j s Nothing
-      unfolding level_from
-      rising_over e = answers_nothing j s (sym r.is ∙ ap (λ (k : ℕ). level_from j k j.goal built level (ends_is A ends)) e)
+          bounds : AllLow (ceiling more) after × LowGain (ceiling more) (Some g)
+          bounds = p.low (ceiling more) (omega (arith, r.few, r.level_low)) (λ k. IfSome_then (get_or ends k None) (r.ends_low k) (λ e l. omega (arith, r.few)))

@@ -1,104 +1,148 @@
--- One pass over the actions, from the first to the last: the ends and the soonest gain of those passed.
-use mathlib.Core.Path.{◌≡◌, refl, sym, ap, ap₂, ◌∙◌, subst}
-use mathlib.Core.Logic.{inl}
-use Prim.Native.Nat.{ℕ, ◌+◌, ◌≤◌, ◌<◌}
-use native.Mathlib.Omega.{arith}
-use native.Mathlib.Numerals.{add-one}
-use native.Mathlib.Decide.{ℕ_discrete}
-use mathlib.Core.Option.{Option, none}
-use mathlib.Core.List.{List}
-use lib.ListN.{length, get_or, set, length-set}
-use lib.Seq.{set-get_or, get_or-set_same, get_or-set_other}
-use Rattle.model.specs.job.Job.{Job}
-use Rattle.model.specs.search.Estimate.{sooner, end_of, readied, gain_of, soonest}
-use Rattle.model.proofs.job.VerdictLaws.{get_or-list_of, list_of_cong}
-use Rattle.estimate.specs.declared.Gain as code
-use Rattle.estimate.specs.Meaning.{never, dearest, end_is, ends_is, gain_is}
-use Rattle.estimate.specs.Turns.{Low, AllLow, Ending, Sooner, ends_at, Passed}
-use Rattle.estimate.proofs.GainLaws.{gain_none}
+-- One pass over the actions of a restricted job: one that may be used ends and gains as in the job; the end of another stays, and it gains nothing.
+use Rattle.std.proofs.Common.{◌≡◌, refl, sym, ap, ap₂, ◌∙◌, ℕ, ◌+◌, ◌/◌, ◌%◌, ◌^◌, ◌≤◌, ◌<◌, arith, add-one, Bool, true, false, Option, None, Some, List}
+use Rattle.std.proofs.Common.{length, length-set, get_or, set, get_or-set_same, get_or-set_other, ltb, bit_and, eq-eqb, ne_eqb}
+use Rattle.std.proofs.lemmas.List.{set-get_or}
+use Rattle.std.proofs.lemmas.Nat.{and_le_r}
+use Rattle.std.proofs.Math.Decide.{ℕ_discrete}
+use Rattle.model.specs.Bits.{bit}
+use Rattle.model.specs.job.Job.{Job, Action, action_of}
+use Rattle.model.specs.job.Rights.{no_fact, barred, restricted}
+use Rattle.model.specs.job.Layout.{action_count, job_of}
+use Rattle.model.specs.task.State.{within}
+use Rattle.model.specs.search.Estimate.{Ends, Gain, sooner, end_of, readied, gain_of, soonest}
+use Rattle.model.proofs.job.Accepted.{length-actions}
+use Rattle.model.proofs.job.VerdictLaws.{get_or-list_of}
+use Rattle.model.proofs.rights.Steps.{length-restricted, action_usable, action_barred}
+use Rattle.estimate.specs.Meaning.{dearest}
+use Rattle.estimate.specs.Turns.{Low, LowGain, AllLow, StaysLow, Passed}
+
+-- ---- gains
+
+-- What is so of two gains is so of the sooner.
+sooner_so : (P : Option Gain → Type 0) (x y : Option Gain) → P x → P y → P (sooner x y)
+unfolding sooner
+sooner_so P None y p q = q
+sooner_so P (Some x) None p q = p
+sooner_so P (Some x) (Some y) p q = by (ltb y.level x.level)
+  where
+    by : (b : Bool) → P (elim b [ true ↦ Some y | false ↦ Some x ])
+    by true = q
+    by false = p
+
+sooner_none : (x : Option Gain) → sooner x None ≡ x
+unfolding sooner
+sooner_none None = refl
+sooner_none (Some x) = refl
+
+-- ---- the end and the gain of an action
+
+end_by : ℕ → ℕ → Option ℕ → Action → Option ℕ
+end_by built level end a = elim end [
+  | Some e ↦ Some e
+  | None ↦ elim (within a.pre built) [ true ↦ Some (level + a.cost) | false ↦ None ]
+]
+
+gain_by : ℕ → Option ℕ → Action → Option Gain
+gain_by built end a = elim end [
+  | None ↦ None
+  | Some e ↦ elim (within a.add built) [ true ↦ None | false ↦ Some (record { level = e; adds = a.add }) ]
+]
+
+gain_low : (built top : ℕ) (end : Option ℕ) (a : Action) → Low top end → LowGain top (gain_by built end a)
+unfolding gain_by
+gain_low built top None a l = tt
+gain_low built top (Some e) a l = by (within a.add built)
+  where
+    by : (b : Bool) → LowGain top (elim b [ true ↦ None | false ↦ Some (record { level = e; adds = a.add }) ])
+    by true = tt
+    by false = l
+
+-- The fact that a barred action needs is no fact of a state, so it is not built.
+unbuilt : (built : ℕ) → built < 2 ^ 64 → within no_fact built ≡ false
+unfolding within
+unbuilt built b = ne_eqb (bit_and no_fact built) no_fact (λ e. omega (arith, and_le_r no_fact built))
+
+end_barred : (built level : ℕ) (end : Option ℕ) → built < 2 ^ 64 → end_by built level end barred ≡ end
+unfolding end_by barred
+end_barred built level None b = rw (unbuilt built b, end_by)
+end_barred built level (Some e) b = refl
+
+-- It adds no fact.
+gain_barred : (built : ℕ) (end : Option ℕ) → gain_by built end barred ≡ None
+unfolding gain_by barred within
+gain_barred built None = refl
+gain_barred built (Some e) = refl
+
+-- ---- one action more
 
 module _ (j : Job) (built level : ℕ) where
-  abbrev A : ℕ
-  A = length j.actions
+  -- Before the first action nothing is gained.
+  pub passed_none : (ends : Ends) → Passed j built level ends ends 0 None
+  unfolding soonest
+  passed_none ends = record { ends = λ k l. absurd (omega arith); rest = λ k l. refl; gain = refl; low = λ top l h. (h, tt) }
 
-  -- The actions below i are passed.
-  pub record Passing (before after : List ℕ) (i : ℕ) (best : code.Gain) : Type 0 where
-    pub done : (k : ℕ) → k < i → end_is (get_or after k 0) ≡ end_of j built level (end_is (get_or before k 0)) k
-    pub rest : (k : ℕ) → i ≤ k → get_or after k 0 ≡ get_or before k 0
-    pub gain : gain_is best ≡ soonest j built (ends_at j built level before) i
-    pub low : (top : ℕ) → level + dearest ≤ top → AllLow top before → AllLow top after × Low top best.level
+  -- the end of action k at the level
+  pub readied_at : (ends : Ends) (k : ℕ) → k < length j.actions
+      → get_or (readied j built level ends) k None ≡ end_of j built level (get_or ends k None) k
+  unfolding readied
+  readied_at ends k l = get_or-list_of (λ i. end_of j built level (get_or ends i None) i) (length j.actions) k None l
 
-  module _ (before : List ℕ) where
-    end_at : (k : ℕ) → k < A → get_or (ends_is A before) k none ≡ end_is (get_or before k 0)
-    unfolding ends_is
-    end_at k l = get_or-list_of (λ i. end_is (get_or before i 0)) A k none l
+  module _ {before after xs : Ends} {i : ℕ} {best r : Option Gain} {e : Option ℕ} {a : Action} (p : Passed j built level before after i best)
+      (l : i < length j.actions) (m : i < length xs) (f : xs ≡ set after i e) (is : action_of j i ≡ a)
+      (n : e ≡ end_by built level (get_or after i None) a) (low : StaysLow level (get_or after i None) e) (s : r ≡ sooner best (gain_by built e a)) where
+    own : get_or xs i None ≡ e
+    own = rw f (get_or-set_same after i e None (omega (arith, ap length f, length-set {A = Option ℕ})))
 
-    -- the end of action k at the level
-    readied_at : (k : ℕ) → k < A → get_or (ends_at j built level before) k none ≡ end_of j built level (end_is (get_or before k 0)) k
-    unfolding readied
-    readied_at k l =
-        get_or-list_of (λ i. end_of j built level (get_or (ends_is A before) i none) i) A k none l
-        ∙ ap (λ (o : Option ℕ). end_of j built level o k) (end_at k l)
+    other : (k : ℕ) → (k ≡ i → ⊥) → get_or xs k None ≡ get_or after k None
+    other k d = rw f (get_or-set_other after i k e None d)
 
-    -- Before the first action nothing is gained.
-    pub passing_none : (g : code.Gain) → g.level ≡ never → Passing before before 0 g
-    unfolding soonest
-    passing_none g e = record {
-      done = λ k l. absurd (omega arith);
-      rest = λ k l. refl;
-      gain = gain_none g e;
-      low = λ top l h. (h, inl e);
+    same : e ≡ end_of j built level (get_or before i None) i
+    unfolding end_of end_by
+    same = n ∙ sym (ap (end_by built level (get_or after i None)) is) ∙ ap (λ o. end_of j built level o i) (p.rest i (omega arith))
+
+    ends : (k : ℕ) → k < i + 1 → Dec (k ≡ i) → get_or xs k None ≡ end_of j built level (get_or before k None) k
+    ends k q (yes d) = rw d (own ∙ same)
+    ends k q (no d) = other k d ∙ p.ends k (omega arith)
+
+    end_low : (top : ℕ) → level + dearest ≤ top → AllLow top before → (k : ℕ) → Dec (k ≡ i) → Low top (get_or xs k None)
+    end_low top q h k (yes d) = rw (d, own) (low top q ((p.low top q h).0 i))
+    end_low top q h k (no d) = rw (other k d) ((p.low top q h).0 k)
+
+    passed_more : Passed j built level before xs (i + 1) r
+    unfolding soonest gain_of gain_by
+    passed_more = record {
+      ends = λ k q. ends k q (ℕ_discrete k i);
+      rest = λ k q. other k (omega arith) ∙ p.rest k (omega arith);
+      gain = s ∙ ap (λ x. sooner best (gain_by built e x)) (sym is)
+          ∙ ap₂ (λ g x. sooner g (gain_of j built x i)) p.gain (same ∙ sym (readied_at before i l))
+          ∙ ap (soonest j built (readied j built level before)) (sym (add-one i));
+      low = λ top q h. (
+        λ k. end_low top q h k (ℕ_discrete k i),
+        rw s (sooner_so (LowGain top) best _ (p.low top q h).1 (gain_low built top e a (low top q ((p.low top q h).0 i)))),
+      );
     }
 
-    -- One action more.
-    pub passing_more : (after : List ℕ) (i : ℕ) (best r : code.Gain) (e : ℕ) → Passing before after i best → i < A → i < length after
-        → Ending j built level (get_or after i 0) i e → Sooner j built e i best r → Passing before (set after i e) (i + 1) r
-    unfolding soonest
-    passing_more after i best r e p l m n s = record {
-      done = λ k q. done k q (ℕ_discrete k i);
-      rest = λ k q. get_or-set_other after i k e 0 (λ d. omega arith) ∙ p.rest k (omega arith);
-      gain = s.is ∙ ap₂ sooner p.gain own ∙ ap (soonest j built (ends_at j built level before)) (sym (add-one i));
-      low = λ top q h. low top q h (p.low top q h);
-    }
-      where
-        same : end_is e ≡ end_of j built level (end_is (get_or before i 0)) i
-        same = n.is ∙ ap (λ (x : ℕ). end_of j built level (end_is x) i) (p.rest i (omega arith))
+-- ---- one action more of a restricted job
 
-        own : gain_of j built (end_is e) i ≡ gain_of j built (get_or (ends_at j built level before) i none) i
-        own = ap (λ (o : Option ℕ). gain_of j built o i) (same ∙ sym (readied_at i l))
+module _ (u : ℕ) (bytes : List ℕ) where
+  -- It has as many actions as its bytes say.
+  pub counted : length (restricted u (job_of bytes)).actions ≡ action_count bytes
+  counted = length-restricted u (job_of bytes) ∙ length-actions bytes
 
-        done : (k : ℕ) → k < i + 1 → Dec (k ≡ i) → end_is (get_or (set after i e) k 0) ≡ end_of j built level (end_is (get_or before k 0)) k
-        done k q (yes d) =
-            subst (λ (x : ℕ). end_is (get_or (set after i e) x 0) ≡ end_of j built level (end_is (get_or before x 0)) x) (sym d)
-            (ap end_is (get_or-set_same after i e 0 m) ∙ same)
-        done k q (no d) = ap end_is (get_or-set_other after i k e 0 d) ∙ p.done k (omega arith)
+  module _ {built level i : ℕ} {before after xs : Ends} {best g : Option Gain} (p : Passed (restricted u (job_of bytes)) built level before after i best)
+      (l : i < action_count bytes) (m : i < length xs) where
+    pub passed_usable : {e : Option ℕ} {r : Option Gain} → u / 2 ^ i % 2 ≡ 1 → xs ≡ set after i e
+        → e ≡ end_of (job_of bytes) built level (get_or after i None) i → StaysLow level (get_or after i None) e
+        → r ≡ sooner best (gain_of (job_of bytes) built e i) → g ≡ r → Passed (restricted u (job_of bytes)) built level before xs (i + 1) g
+    unfolding bit end_of gain_of end_by gain_by
+    passed_usable t f n low s q =
+        passed_more _ _ _ p (rw counted l) m f (action_usable u (job_of bytes) i (eq-eqb (u / 2 ^ i % 2) 1 t)) n low (q ∙ s)
 
-        low : (top : ℕ) → level + dearest ≤ top → AllLow top before → AllLow top after × Low top best.level
-            → AllLow top (set after i e) × Low top r.level
-        low top q h k = (
-          record { long = length-set after i e ∙ k.0.long; each = λ x. at x (ℕ_discrete x i) },
-          s.low top own_low k.1,
-        )
-          where
-            own_low : Low top e
-            own_low = n.low top q (k.0.each i)
-
-            at : (x : ℕ) → Dec (x ≡ i) → Low top (get_or (set after i e) x 0)
-            at x (yes d) = subst (λ (y : ℕ). Low top (get_or (set after i e) y 0)) (sym d) (subst (Low top) (sym (get_or-set_same after i e 0 m)) own_low)
-            at x (no d) = subst (Low top) (sym (get_or-set_other after i x e 0 d)) (k.0.each x)
-
-    -- One action more, whose end stays and which is not sooner than the best so far.
-    pub passing_same : (after : List ℕ) (i : ℕ) (best : code.Gain) → Passing before after i best → i < A → i < length after
-        → Ending j built level (get_or after i 0) i (get_or after i 0) → Sooner j built (get_or after i 0) i best best → Passing before after (i + 1) best
-    passing_same after i best p l m n s =
-        subst (λ (xs : List ℕ). Passing before xs (i + 1) best) (set-get_or after i 0) (passing_more after i best best (get_or after i 0) p l m n s)
-
-    -- After the last action all are passed.
-    pub passing_all : (after : List ℕ) (i : ℕ) (r : code.Gain) → i ≡ A → Passing before after i r → Passed j built level before after r
-    unfolding ends_is readied
-    passing_all after i r e p = record {
-      ends = list_of_cong (λ k. end_is (get_or after k 0)) (λ k. end_of j built level (get_or (ends_is A before) k none) k) A
-          (λ k l. p.done k (omega arith) ∙ ap (λ (o : Option ℕ). end_of j built level o k) (sym (end_at k l)));
-      gain = p.gain ∙ ap (soonest j built (ends_at j built level before)) e;
-      low = p.low;
-    }
+    pub passed_barred : (u / 2 ^ i % 2 ≡ 1 → ⊥) → built < 2 ^ 64 → xs ≡ after → g ≡ best
+        → Passed (restricted u (job_of bytes)) built level before xs (i + 1) g
+    unfolding bit
+    passed_barred t b f q =
+        let end = get_or after i None in
+        passed_more _ _ _ p (rw counted l) m (f ∙ sym (set-get_or after i None))
+        (action_barred u (job_of bytes) i (rw length-actions l) (ne_eqb (u / 2 ^ i % 2) 1 t)) (sym (end_barred built level end b)) (λ top o w. w)
+        (q ∙ sym (ap (sooner best) (gain_barred built end) ∙ sooner_none best))

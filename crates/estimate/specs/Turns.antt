@@ -1,36 +1,28 @@
--- What the functions of one turn promise: each says what it makes of an end or a gain, and that no number is above a bound which it does not raise.
-use Rattle.std.specs.Prelude.{◌≡◌, ◌⊎◌, ℕ, ◌+◌, ◌≤◌, List, length, get_or}
+-- What the functions of one turn promise beside what they compute: no end and no gain is above a bound which they do not raise.
+use Rattle.std.specs.Prelude.{◌≡◌, ℕ, ◌+◌, ◌≤◌, ◌<◌, Option, None, get_or, IfSome}
 use Rattle.model.specs.job.Job.{Job}
-use Rattle.model.specs.search.Estimate.{Ends, sooner, end_of, readied, gain_of, soonest}
-use Rattle.estimate.specs.declared.Gain.{Gain}
-use Rattle.estimate.specs.Meaning.{never, dearest, end_is, ends_is, gain_is}
+use Rattle.model.specs.search.Estimate.{Ends, Gain, end_of, readied, soonest}
+use Rattle.estimate.specs.Meaning.{dearest}
 
--- An end or a level is never, or at most so much.
-abbrev pub Low : ℕ → ℕ → Type 0
-Low top x = (x ≡ never) ⊎ (x ≤ top)
+-- An end, if there is one, is at most so much.
+abbrev pub Low : ℕ → Option ℕ → Type 0
+Low top end = IfSome end (λ e. e ≤ top)
 
--- There is a number for each action that a job may have, and each is low.
-pub record AllLow (top : ℕ) (xs : List ℕ) : Type 0 where
-  pub long : length xs ≡ 64
-  pub each : (i : ℕ) → Low top (get_or xs i 0)
+-- Each end is low.
+abbrev pub AllLow : ℕ → Ends → Type 0
+AllLow top ends = (k : ℕ) → Low top (get_or ends k None)
 
-module _ (j : Job) (built : ℕ) where
-  -- The number r stands for the end of action i, which the number end stood for before.
-  pub record Ending (level end i r : ℕ) : Type 0 where
-    pub is : end_is r ≡ end_of j built level (end_is end) i
-    pub low : (top : ℕ) → level + dearest ≤ top → Low top end → Low top r
+-- A gain, if there is one, is at no level above so much.
+abbrev pub LowGain : ℕ → Option Gain → Type 0
+LowGain top gain = IfSome gain (λ g. g.level ≤ top)
 
-  -- Of the best gain so far and that of action i, which ends at end, r is the sooner.
-  pub record Sooner (end i : ℕ) (best r : Gain) : Type 0 where
-    pub is : gain_is r ≡ sooner (gain_is best) (gain_of j built (end_is end) i)
-    pub low : (top : ℕ) → Low top end → Low top best.level → Low top r.level
+-- An end that was low is low at this level, too, where one cost more than the level is not above the bound.
+abbrev pub StaysLow : ℕ → Option ℕ → Option ℕ → Type 0
+StaysLow level before after = (top : ℕ) → level + dearest ≤ top → Low top before → Low top after
 
-  -- the ends at a level
-  abbrev pub ends_at : ℕ → List ℕ → Ends
-  ends_at level xs = readied j built level (ends_is (length j.actions) xs)
-
-  -- The ends are those at a level, and r is the soonest gain by one of them.
-  pub record Passed (level : ℕ) (before after : List ℕ) (r : Gain) : Type 0 where
-    pub ends : ends_is (length j.actions) after ≡ ends_at level before
-    pub gain : gain_is r ≡ soonest j built (ends_at level before) (length j.actions)
-    pub low : (top : ℕ) → level + dearest ≤ top → AllLow top before → AllLow top after × Low top r.level
+-- Of the actions below n the ends are those at a level, the other ends stay, and r is the soonest gain.
+pub record Passed (j : Job) (built level : ℕ) (before after : Ends) (n : ℕ) (r : Option Gain) : Type 0 where
+  pub ends : (k : ℕ) → k < n → get_or after k None ≡ end_of j built level (get_or before k None) k
+  pub rest : (k : ℕ) → n ≤ k → get_or after k None ≡ get_or before k None
+  pub gain : r ≡ soonest j built (readied j built level before) n
+  pub low : (top : ℕ) → level + dearest ≤ top → AllLow top before → AllLow top after × LowGain top r

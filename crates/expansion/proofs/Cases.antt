@@ -1,14 +1,6 @@
 -- One arrival and one action of the search, case by case, as code comes to them.
-use mathlib.Core.Path.{◌≡◌, refl, ap, ◌∙◌}
-use mathlib.Core.Bool.{Bool, true, false}
-use mathlib.Core.Option.{none, some}
-use mathlib.Core.List.{[], ◌∷◌, ◌++◌}
-use mathlib.Core.Logic.{⊎_elim}
-use Prim.Native.Nat.{ℕ, zero, suc, ◌≤◌, ◌<◌}
-use native.Mathlib.Nat.{eq-or-lt_of_le, le_of_suc-le-suc}
-use native.Mathlib.Omega.{arith}
-use lib.ListN.{length, set}
-use borrow.Author.Tests.{lt-ltb, le-ltb}
+use Rattle.std.proofs.Common.{◌≡◌, refl, ap, ◌∙◌, Bool, true, false, None, Some, [], ◌∷◌, ◌++◌, ⊎_elim, ℕ, zero, suc, ◌≤◌, ◌<◌, eq-or-lt_of_le}
+use Rattle.std.proofs.Common.{le_of_suc-le-suc, arith, length, set, lt-ltb, le-ltb}
 use Rattle.model.specs.exploration.Key.{Key, extend, less, same_key, earlier}
 use Rattle.model.specs.exploration.System.{System}
 use Rattle.astar.specs.Records.{Held, Table, find}
@@ -22,11 +14,13 @@ module _ (S : System) where
     abbrev comes_first : Bool
     comes_first = earlier (path_by S t r.key.steps i a) (path_by S t r.key.steps r.parent r.action)
 
-    pub tied_new : comes_first ≡ true → tied S t r h i a ≡ record { node = r.node; key = r.key; hints = S.meet r.hints h; parent = i; action = a; taken = false }
+    pub tied_new : comes_first ≡ true
+        → tied S t r h i a ≡ record { node = r.node; key = r.key; hints = S.meet r.hints h; parent = i; action = a; taken = false }
     unfolding tied
     tied_new e = rw (e, tied) refl
 
-    pub tied_old : comes_first ≡ false → tied S t r h i a ≡ record { node = r.node; key = r.key; hints = S.meet r.hints h; parent = r.parent; action = r.action; taken = false }
+    pub tied_old : comes_first ≡ false
+        → tied S t r h i a ≡ record { node = r.node; key = r.key; hints = S.meet r.hints h; parent = r.parent; action = r.action; taken = false }
     unfolding tied
     tied_old e = rw (e, tied) refl
 
@@ -38,7 +32,8 @@ module _ (S : System) where
       unfolding relaxed
       relaxed_taken e = rw (e, relaxed) (kept true e)
 
-      pub relaxed_less : r.taken ≡ false → less k r.key ≡ true → relaxed S t r k h i a ≡ record { node = r.node; key = k; hints = h; parent = i; action = a; taken = false }
+      pub relaxed_less : r.taken ≡ false → less k r.key ≡ true
+          → relaxed S t r k h i a ≡ record { node = r.node; key = k; hints = h; parent = i; action = a; taken = false }
       unfolding relaxed
       relaxed_less e f = rw (e, relaxed, f) refl
 
@@ -53,31 +48,31 @@ module _ (S : System) where
   -- ---- an arrival at any node
 
   module _ (slots : ℕ) (t : Table S) (n : S.Node) (k : Key) (h : S.Hints) (i a : ℕ) where
-    pub arrive_held : {j : ℕ} {r : Held S} → find S n t 0 ≡ some j → Holds t j r → arrive S slots t n k h i a ≡ goes_on (set t j (relaxed S t r k h i a))
+    pub arrive_held : {j : ℕ} {r : Held S} → find S n t 0 ≡ Some j → Holds t j r → arrive S slots t n k h i a ≡ goes_on (set t j (relaxed S t r k h i a))
     unfolding arrive
     arrive_held f p = rw (f, arrive, p) refl
 
     -- Where the node's slot is taken, the table stays as it is.
-    pub arrive_taken : {j : ℕ} {r : Held S} → find S n t 0 ≡ some j → Holds t j r → r.taken ≡ true → arrive S slots t n k h i a ≡ goes_on t
+    pub arrive_taken : {j : ℕ} {r : Held S} → find S n t 0 ≡ Some j → Holds t j r → r.taken ≡ true → arrive S slots t n k h i a ≡ goes_on t
     arrive_taken {j} {r} f p e = arrive_held f p ∙ ap goes_on (ap (set t j) (relaxed_taken t r h i a k e) ∙ set_held t j r p)
 
-    pub arrive_new : find S n t 0 ≡ none → length t < slots
+    pub arrive_new : find S n t 0 ≡ None → length t < slots
         → arrive S slots t n k h i a ≡ goes_on (t ++ (record { node = n; key = k; hints = h; parent = i; action = a; taken = false } ∷ []))
     unfolding arrive
     arrive_new f l = rw (f, arrive, lt-ltb (length t) slots l) refl
 
-    pub arrive_full : find S n t 0 ≡ none → slots ≤ length t → arrive S slots t n k h i a ≡ full
+    pub arrive_full : find S n t 0 ≡ None → slots ≤ length t → arrive S slots t n k h i a ≡ full
     unfolding arrive
     arrive_full f l = rw (f, arrive, le-ltb (length t) slots l) refl
 
   -- ---- one action, and those below the next
 
   module _ (slots : ℕ) (r : Held S) (i : ℕ) where
-    pub follow_none : (t : Table S) (a : ℕ) → S.step r.node a ≡ none → follow S slots t r i a ≡ goes_on t
+    pub follow_none : (t : Table S) (a : ℕ) → S.step r.node a ≡ None → follow S slots t r i a ≡ goes_on t
     unfolding follow
     follow_none t a e = rw (e, follow) refl
 
-    pub follow_some : (t : Table S) (a : ℕ) {n : S.Node} → S.step r.node a ≡ some n
+    pub follow_some : (t : Table S) (a : ℕ) {n : S.Node} → S.step r.node a ≡ Some n
         → follow S slots t r i a ≡ arrive S slots t n (extend r.key (S.cost a)) (S.carry r.hints n a) i a
     unfolding follow
     follow_some t a e = rw (e, follow) refl

@@ -1,11 +1,5 @@
 -- The choices that are left: bit 0 is action a, and the actions below a were shifted out.
-use mathlib.Core.Path.{◌≡◌, sym, ap, ◌∙◌}
-use mathlib.Core.Bool.{false}
-use Prim.Native.Nat.{ℕ, ◌+◌, ◌/◌, ◌%◌, ◌^◌, ◌<◌}
-use borrow.Author.Tests.{eq-eqb, ne_eqb}
-use lib.Dec.{eqb}
-use lib.Pow.{shr-shr}
-use lib.ListN.{length}
+use Rattle.std.proofs.Common.{◌≡◌, sym, ap, ◌∙◌, false, ℕ, ◌+◌, ◌/◌, ◌%◌, ◌^◌, ◌<◌, eq-eqb, ne_eqb, eqb, shr-shr, length}
 use Rattle.model.specs.Bits.{bit}
 use Rattle.model.specs.job.Job.{Job, action_of}
 use Rattle.model.specs.search.Node.{Node}

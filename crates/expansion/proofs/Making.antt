@@ -1,9 +1,5 @@
 -- Laws of the slots that arrivals make: what they stand for, and that they fit.
-use mathlib.Core.Path.{◌≡◌, ap, ◌∙◌, subst, sym}
-use mathlib.Core.Bool.{Bool, false}
-use mathlib.Core.List.{List}
-use Prim.Native.Nat.{ℕ, suc, ◌+◌, ◌≤◌, ◌<◌}
-use native.Mathlib.Omega.{arith}
+use Rattle.std.proofs.Common.{◌≡◌, ap, ◌∙◌, subst, sym, Bool, false, List, ℕ, suc, ◌+◌, ◌≤◌, ◌<◌, arith}
 use Rattle.model.specs.exploration.Key.{Key, extend}
 use Rattle.model.specs.job.Layout.{constraint_count, hint_count, job_of}
 use Rattle.model.specs.search.Node.{Node, meet_all}
@@ -37,12 +33,12 @@ module _ (job : List ℕ) where
       record { is = e ∙ ap (extend (record { cost = from.cost; steps = from.steps })) k.costs; summed = omega arith; short = omega arith }
 
   -- A slot of right parts.
-  pub opened_makes : (node hints : List ℕ) (key : code.Key) (estimate parent action : ℕ) (goal : Bool) {k : Key} {h : List ℕ} {s : Slot}
+  pub opened_makes : {node hints : List ℕ} {key : code.Key} {estimate parent action : ℕ} {goal : Bool} {k : Key} {h : List ℕ} {s : Slot}
       → s ≡ open_slot node hints key estimate parent action goal → Reaches k key → Carries (hint_count job) h hints
       → Clean (constraint_count job) node → goal ≡ is_goal (job_of job) (node_for job node) → FitsSlot estimate → parent < 65536 → action < 256
       → Makes job (record { node = node_for job node; key = k; hints = h; parent = parent; action = action; taken = false }) estimate s
   unfolding held_is
-  opened_makes node hints key estimate parent action goal e r c n g left p a = record {
+  opened_makes {node} {hints} {key} {estimate} {parent} {action} {goal} e r c n g left p a = record {
     stands = ap (held_is job) e
         ∙ (λ d. record { node = node_for job node; key = r.is d; hints = c.carries d; parent = parent; action = action; taken = false });
     formed = rw e (record { clean = n; clean_hints = c.clean; marked = g; summed = r.summed });

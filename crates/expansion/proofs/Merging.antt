@@ -1,22 +1,17 @@
 -- The slot that an arrival with an equal key makes: both ways' hint residuals are conjoined, and the way whose path comes first is kept.
-use mathlib.Core.Path.{◌≡◌, refl, sym, ◌∙◌, subst}
-use mathlib.Core.Bool.{Bool, true, false}
-use mathlib.Core.List.{List}
-use Prim.Native.Nat.{ℕ, ◌<◌}
-use native.Mathlib.Omega.{arith}
+use Rattle.std.proofs.Common.{◌≡◌, refl, sym, ◌∙◌, subst, Bool, true, false, List, ℕ, ◌<◌}
 use Rattle.model.specs.job.Layout.{hint_count}
 use Rattle.model.specs.logic.Formula.{choose}
 use Rattle.model.specs.search.Node.{meet_all}
-use Rattle.model.specs.search.Query.{query}
 use Rattle.table.specs.declared.Slot.{Slot}
 use Rattle.table.specs.Lookup.{key_of}
 use Rattle.nodes.specs.Meaning.{Carries}
-use Rattle.paths.specs.Chain.{held, order_by}
-use Rattle.held.proofs.JobLaws.{few_actions, few_hints}
+use Rattle.paths.specs.Chain.{order_by}
+use Rattle.held.proofs.JobLaws.{few_hints}
 use Rattle.expansion.specs.Arrivals.{open_slot, hints_by, both, joined, Extends, Joins, Reaches, Makes}
 use Rattle.expansion.proofs.Making.{met_carries, opened_makes}
 
-module _ (job : List ℕ) {n : ℕ} {t : List ℕ} {i : ℕ} {from : Slot} {a : ℕ} (x : Extends job from a) {old : Slot} (joins : Joins job n t i old) where
+module _ (job : List ℕ) {ss : List Slot} {i : ℕ} {from : Slot} {a : ℕ} (x : Extends job from a) {old : Slot} (joins : Joins job ss i old) where
   -- The old slot's key is kept.
   key_kept : Reaches (key_of old.cost old.steps) (record { cost = old.cost; steps = old.steps })
   key_kept = record { is = refl; summed = joins.formed.summed; short = joins.narrow.steps }
@@ -29,21 +24,21 @@ module _ (job : List ℕ) {n : ℕ} {t : List ℕ} {i : ℕ} {from : Slot} {a : 
     makes_both : (first : Bool) {s : Slot} → s ≡ stored hints (choose first i old.parent) (choose first a old.action)
         → choose first i old.parent < 65536 → choose first a old.action < 256 → Makes job (both job i from a node old first) old.estimate s
     makes_both first e l m =
-        opened_makes job old.node hints _ old.estimate _ _ old.goal e key_kept
-        (met_carries (hint_count job) old.hints g met joins.formed.clean_hints carried (few_hints (query job 0) x.accepted))
+        opened_makes job e key_kept
+        (met_carries (hint_count job) old.hints g met joins.formed.clean_hints carried (few_hints job x.accepted))
         joins.formed.clean joins.formed.marked joins.narrow.estimate l m
 
     -- What is made by the order of the paths.
-    by_order : {s : Slot} {b c : Bool} → b ≡ order_by (held t n) i a old.parent old.action → b ≡ c
-        → Makes job (both job i from a node old c) old.estimate s → Makes job (joined job n t i from a node old) old.estimate s
+    by_order : {s : Slot} {b c : Bool} → b ≡ order_by ss i a old.parent old.action → b ≡ c
+        → Makes job (both job i from a node old c) old.estimate s → Makes job (joined job ss i from a node old) old.estimate s
     by_order {s} q o m = subst (λ (c : Bool). Makes job (both job i from a node old c) old.estimate s) (sym o ∙ q) m
 
     -- Where the new path comes first, the merged record has its parent and action.
-    pub merged_new : {s : Slot} {b : Bool} → s ≡ stored hints i a → b ≡ order_by (held t n) i a old.parent old.action → b ≡ true
-        → Makes job (joined job n t i from a node old) old.estimate s
-    merged_new e q o = by_order q o (makes_both true e joins.small (omega (arith, x.known, few_actions (query job 0) x.accepted)))
+    pub merged_new : {s : Slot} {b : Bool} → s ≡ stored hints i a → b ≡ order_by ss i a old.parent old.action → b ≡ true → a < 256
+        → Makes job (joined job ss i from a node old) old.estimate s
+    merged_new e q o l = by_order q o (makes_both true e joins.small l)
 
     -- Where the old path comes first, the merged record keeps its parent and action.
-    pub merged_old : {s : Slot} {b : Bool} → s ≡ stored hints old.parent old.action → b ≡ order_by (held t n) i a old.parent old.action
-        → b ≡ false → Makes job (joined job n t i from a node old) old.estimate s
+    pub merged_old : {s : Slot} {b : Bool} → s ≡ stored hints old.parent old.action → b ≡ order_by ss i a old.parent old.action
+        → b ≡ false → Makes job (joined job ss i from a node old) old.estimate s
     merged_old e q o = by_order q o (makes_both false e joins.narrow.parent joins.narrow.action)

@@ -1,7 +1,6 @@
 -- One arrival: what is known before an action is followed, and what the slots that it makes stand for.
-use Rattle.std.specs.Prelude.{◌≡◌, Bool, false, List, ℕ, ◌+◌, ◌*◌, ◌≤◌, ◌<◌, length, set}
-use Rattle.std.proofs.Math.Option.{some}
-use Rattle.model.specs.declared.Verdict.TheVariants.{Fine}
+use Rattle.std.specs.Prelude.{◌≡◌, Bool, false, Some, List, ℕ, ◌+◌, ◌*◌, ◌≤◌, ◌<◌, length, set}
+use Rattle.model.specs.Verdict.{no_refusal}
 use Rattle.model.specs.logic.Formula.{choose}
 use Rattle.model.specs.exploration.Key.{Key, extend}
 use Rattle.model.specs.job.Job.{action_of}
@@ -9,19 +8,19 @@ use Rattle.model.specs.job.Layout.{action_count, constraint_count, hint_count, j
 use Rattle.model.specs.job.Decoding.{job_verdict}
 use Rattle.model.specs.search.Node.{Node, meet_all}
 use Rattle.model.specs.search.JobSystem.{next_node, carry_hints}
-use Rattle.model.specs.search.Query.{Query, query, job_for}
-use Rattle.model.specs.calls.Search.{slot_bytes}
+use Rattle.model.specs.search.Query.{Query, job_for}
 use Rattle.task.specs.declared.Key as code
 use Rattle.task.specs.Meaning.{key_is}
 use Rattle.table.specs.declared.Slot.{Slot}
-use Rattle.table.specs.Slots.{slot_at, Narrow}
+use Rattle.table.specs.Slots.{slot_in, Narrow}
+use Rattle.table.specs.Tables.{Table}
 use Rattle.table.specs.Lookup.{key_of}
-use Rattle.paths.specs.Chain.{held, steps_at, order_by, Chained}
+use Rattle.paths.specs.Chain.{steps_at, order_by, Chained}
 use Rattle.nodes.specs.Meaning.{Clean, hints_is}
 use Rattle.astar.specs.Records.{HeldOf}
 use Rattle.astar.specs.Search.{relaxed}
 use Rattle.astar.proofs.Sending.{Expanding}
-use Rattle.held.specs.Held.{sys, node_for, held_is, held_in, Formed, SoundTo}
+use Rattle.held.specs.Held.{sys, node_for, held_is, held_in, Formed, AllSound}
 use Rattle.held.specs.Running.{Running}
 
 -- an open slot of its parts
@@ -49,7 +48,7 @@ pub record Reaches (k : Key) (r : code.Key) : Type 0 where
 module _ (job : List ℕ) where
   -- The key of a slot can be extended by action a, and fits a slot afterwards.
   pub record Extends (from : Slot) (a : ℕ) : Type 0 where
-    pub accepted : job_verdict job ≡ Fine
+    pub accepted : job_verdict job ≡ no_refusal
     pub known : a < action_count job
     pub summed : from.cost ≤ 65535 * from.steps
     pub short : from.steps + 1 < 65536
@@ -75,10 +74,12 @@ module _ (job : List ℕ) where
   newcomer i from a node kept =
       record { node = node_for job kept; key = key_by from a; hints = hints_by from a node; parent = i; action = a; taken = false }
 
-  -- Slot i of n can be compared with the parent of an old slot, and both fit.
-  pub record Joins (n : ℕ) (table : List ℕ) (i : ℕ) (old : Slot) : Type 0 where
-    pub comparable : (n * slot_bytes ≤ length table) × Chained (held table n) × (i < n) × (old.parent < n)
-        × (steps_at (held table n) i ≡ steps_at (held table n) old.parent)
+  -- Slot i can be compared with the parent of an old slot, and both fit.
+  pub record Joins (ss : List Slot) (i : ℕ) (old : Slot) : Type 0 where
+    pub chained : Chained ss
+    pub inside : i < length ss
+    pub old_inside : old.parent < length ss
+    pub level : steps_at ss i ≡ steps_at ss old.parent
     pub small : i < 65536
     pub formed : Formed job old
     pub narrow : Narrow old
@@ -94,38 +95,30 @@ module _ (job : List ℕ) where
     taken = false;
   }
 
-  -- the same in a table of n slots, where the paths tell which way comes first
-  abbrev pub joined : ℕ → List ℕ → ℕ → Slot → ℕ → List ℕ → Slot → HeldOf Node (List ℕ)
-  joined n table i from a node old = both i from a node old (order_by (held table n) i a old.parent old.action)
+  -- the same in a list of slots, where the paths tell which way comes first
+  abbrev pub joined : List Slot → ℕ → Slot → ℕ → List ℕ → Slot → HeldOf Node (List ℕ)
+  joined ss i from a node old = both i from a node old (order_by ss i a old.parent old.action)
 
 -- ---- the same in a search, by what is asked
 
 module _ (job : Query) where
   -- Action a leads from the node of a slot to that of an array.
   pub record LeadsTo (from : Slot) (a : ℕ) (node : List ℕ) : Type 0 where
-    pub leads : next_node (job_for job) (node_for job.bytes from.node) a ≡ some (node_for job.bytes node)
+    pub leads : next_node (job_for job) (node_for job.bytes from.node) a ≡ Some (node_for job.bytes node)
     pub clean : Clean (constraint_count job.bytes) node
 
   -- The record of slot i, which is that of `from`, is being expanded: the actions below a were followed, and a is next.
-  pub record Arriving (places n : ℕ) (table : List ℕ) (i : ℕ) (from : Slot) (a : ℕ) : Type 0 where
+  pub record Arriving (t : Table) (i : ℕ) (from : Slot) (a : ℕ) : Type 0 where
     pub m0 : Node
-    pub running : Running job m0 places n table
-    pub expanding : Expanding (sys job) m0 (held_in job.bytes n table) i (held_is job.bytes from) a
-    pub inside : i < n
+    pub running : Running job m0 t
+    pub expanding : Expanding (sys job) m0 (held_in job.bytes t.slots) i (held_is job.bytes from) a
+    pub inside : i < length t.slots
     pub known : a < action_count job.bytes
 
-  -- Slot j of n was relaxed by the arrival, and the rest is as it was.
-  pub record Relaxed (n : ℕ) (table : List ℕ) (i : ℕ) (from : Slot) (a : ℕ) (node : List ℕ) (j : ℕ) (after : List ℕ) : Type 0 where
-    pub relaxes : held_in job.bytes n after
-        ≡ set (held_in job.bytes n table) j (relaxed (sys job) (held_in job.bytes n table) (held_is job.bytes (slot_at table j))
+  -- Slot j was relaxed by the arrival, and the rest is as it was.
+  pub record Relaxes (t : Table) (i : ℕ) (from : Slot) (a : ℕ) (node : List ℕ) (j : ℕ) (after : Table) : Type 0 where
+    pub relaxes : held_in job.bytes after.slots
+        ≡ set (held_in job.bytes t.slots) j (relaxed (sys job) (held_in job.bytes t.slots) (held_is job.bytes (slot_in t.slots j))
         (key_by job.bytes from a) (hints_by job.bytes from a node) i a)
-    pub sound : SoundTo job n after
-
--- An arrival in some search of the job: whichever steps may be used, and in a table of any number of slots.
-abbrev pub Arrives : List ℕ → ℕ → List ℕ → ℕ → Slot → ℕ → Type 0
-Arrives job n table i from a = (usable : ℕ) × (places : ℕ) × Arriving (query job usable) places n table i from a
-
--- Slot j of n was relaxed by the arrival, in every search of the job in which it can be made.
-abbrev pub Relaxes : List ℕ → ℕ → List ℕ → ℕ → Slot → ℕ → List ℕ → ℕ → List ℕ → Type 0
-Relaxes job n table i from a node j after =
-    (usable places : ℕ) → Arriving (query job usable) places n table i from a → Relaxed (query job usable) n table i from a node j after
+    pub sound : AllSound job after.slots
+    pub same_room : after.room ≡ t.room

@@ -1,36 +1,45 @@
-// The slots that arrivals make: of a new node, and in place of the slot of a node that is held.
+// The slots that arrivals make: of a new node, and in place of the slot of a node that is held. What an arrival is asked (`Extends`) is no promise of its
+// type, since it is about the job, too, which the arrival does not hold.
 ghost use Rattle.std.specs.Prelude.{◌≡◌, ◌<◌};
 ghost use Rattle.model.specs.job.Layout.{constraint_count, hint_count};
-ghost use Rattle.progression.specs.Workspace.{Workspace};
 ghost use Rattle.nodes.specs.Meaning.{Clean, Carries};
 ghost use Rattle.table.specs.Slots.{Narrow};
 ghost use Rattle.held.specs.Held.{Formed, FitsSlot};
 ghost use Rattle.expansion.specs.Arrivals.{open_slot, Extends, Reaches, Makes, key_by, hints_by, newcomer, Joins, joined};
 
+use job::Job;
 use model::NODE;
-use table::Slot;
+use progression::Work;
+use table::{Slot, Table};
 use task::Key;
 
-// The key of an arrival: the sum fits, since costs are sums of as many 16-bit numbers as there are steps.
-pub fn key_of(job: &[u8], from: Slot, a: u8) -> Key
-    requires { Extends job.now from a }
-    ensures { Reaches (key_by job.now from a) result }
-{
-    let key = Key {
-        cost: from.cost,
-        steps: from.steps,
-    };
-    key.extended(nodes::cost_of(job, a))
+// An arrival: the slot that is expanded, what it holds, the action that is followed, and the node that it leads to.
+#[derive(Clone, Copy, Debug, PartialEq, Eq)]
+pub struct Arrival {
+    pub slot: usize,
+    pub from: Slot,
+    pub action: u8,
+    pub node: [u64; NODE],
 }
 
-// The hint residuals of an arrival at a node.
-fn hints_of(job: &[u8], work: &mut [u64], from: Slot, a: u8, node: [u64; NODE]) -> [u64; 8]
-    requires { Extends job.now from a × Workspace job.now work.old }
-    ensures { Carries (hint_count job.now) (hints_by job.now from a node) result
-        × Workspace job.now work.new }
+// The key of an arrival: the sum fits, since costs are sums of as many 16-bit numbers as there are steps.
+pub fn key_of(job: &Job, x: &Arrival) -> Key
+    requires { Extends job.now x.now.from x.now.action }
+    ensures { Reaches (key_by job.now x.now.from x.now.action) result }
 {
-    let hints = from.hints;
-    nodes::next_hints(job, work, hints, node, a)
+    let key = Key {
+        cost: x.from.cost,
+        steps: x.from.steps,
+    };
+    key.extended(nodes::cost_of(job, x.action))
+}
+
+// The hint residuals of an arrival at its node.
+fn hints_of(work: &mut Work, x: &Arrival) -> [u64; 8]
+    requires { Extends work.old.bytes x.now.from x.now.action }
+    ensures { Carries (hint_count work.old.bytes) (hints_by work.old.bytes x.now.from x.now.action x.now.node) result × (work.new ≡ work.old) }
+{
+    nodes::next_hints(work, x.from.hints, x.node, x.action)
 }
 
 // A slot of its parts, open.
@@ -39,8 +48,8 @@ fn opened(
     hints: [u64; 8],
     key: Key,
     estimate: u64,
-    parent: u64,
-    action: u64,
+    parent: usize,
+    action: u8,
     goal: bool,
 ) -> Slot
     ensures { result ≡ open_slot node hints key estimate parent action goal }
@@ -59,75 +68,69 @@ fn opened(
 }
 
 // The slot of a new node, which has an estimate.
-pub fn fresh(
-    job: &[u8],
-    work: &mut [u64],
-    i: usize,
-    from: Slot,
-    a: u8,
-    node: [u64; NODE],
-    estimate: u64,
-) -> Slot
-    requires { Extends job.now from a × (i < 65536) × Clean (constraint_count job.now) node × FitsSlot estimate
-        × Workspace job.now work.old }
-    ensures { Makes job.now (newcomer job.now i from a node node) estimate result
-        × Workspace job.now work.new }
+pub fn fresh(work: &mut Work, x: &Arrival, estimate: u64) -> Slot
+    requires { Extends work.old.bytes x.now.from x.now.action × (x.now.slot < 65536) × Clean (constraint_count work.old.bytes) x.now.node
+        × FitsSlot estimate }
+    ensures { Makes work.old.bytes (newcomer work.old.bytes x.now.slot x.now.from x.now.action x.now.node x.now.node) estimate result
+        × (work.new ≡ work.old) }
 {
-    let key = key_of(job, from, a);
-    let hints = hints_of(job, work, from, a, node);
-    let goal = nodes::is_goal(job, work, node);
-    opened(node, hints, key, estimate, i as u64, a as u64, goal)
+    let key = key_of(work.job(), x);
+    let hints = hints_of(work, x);
+    let goal = nodes::is_goal(work, x.node);
+    opened(x.node, hints, key, estimate, x.slot, x.action, goal)
 }
 
 // The slot of a node that is reached by a lesser key: the node is the old one, so it is a goal if that was, and has its estimate.
-pub fn replaced(
-    job: &[u8],
-    work: &mut [u64],
-    i: usize,
-    from: Slot,
-    a: u8,
-    node: [u64; NODE],
-    key: Key,
-    old: Slot,
-) -> Slot
-    requires { Extends job.now from a × (i < 65536) × Reaches (key_by job.now from a) key × Formed job.now old × Narrow old
-        × Workspace job.now work.old }
-    ensures { Makes job.now (newcomer job.now i from a node old.node) old.estimate result
-        × Workspace job.now work.new }
+pub fn replaced(work: &mut Work, x: &Arrival, key: Key, old: &Slot) -> Slot
+    requires { Extends work.old.bytes x.now.from x.now.action × (x.now.slot < 65536)
+        × Reaches (key_by work.old.bytes x.now.from x.now.action) key × Formed work.old.bytes old.now × Narrow old.now }
+    ensures { Makes work.old.bytes (newcomer work.old.bytes x.now.slot x.now.from x.now.action x.now.node old.now.node) old.now.estimate result
+        × (work.new ≡ work.old) }
 {
-    let hints = hints_of(job, work, from, a, node);
-    let same = old.node;
-    opened(same, hints, key, old.estimate, i as u64, a as u64, old.goal)
+    let hints = hints_of(work, x);
+    opened(
+        old.node,
+        hints,
+        key,
+        old.estimate,
+        x.slot,
+        x.action,
+        old.goal,
+    )
 }
 
 // The slot of a node that is reached by an equal key: both ways' hints hold, and the way whose path comes first is kept.
-pub fn merged(
-    job: &[u8],
-    work: &mut [u64],
-    t: &[u8],
-    n: usize,
-    i: usize,
-    from: Slot,
-    a: u8,
-    node: [u64; NODE],
-    old: Slot,
-) -> Slot
-    requires { Extends job.now from a × Joins job.now n t.now i old × Workspace job.now work.old }
-    ensures { Makes job.now (joined job.now n t.now i from a node old) old.estimate result
-        × Workspace job.now work.new }
+pub fn merged(work: &mut Work, t: &Table, x: &Arrival, old: &Slot) -> Slot
+    requires { Extends work.old.bytes x.now.from x.now.action × Joins work.old.bytes t.now.slots x.now.slot old.now }
+    ensures { Makes work.old.bytes (joined work.old.bytes t.now.slots x.now.slot x.now.from x.now.action x.now.node old.now) old.now.estimate result
+        × (work.new ≡ work.old) }
 {
-    let held = old.hints;
-    let hints = progression::met(held, hints_of(job, work, from, a, node));
-    let same = old.node;
+    let hints = progression::met(old.hints, hints_of(work, x));
     let key = Key {
         cost: old.cost,
         steps: old.steps,
     };
-    let parent = old.parent;
-    let action = old.action;
-    if paths::comes_first(t, n, i, a as u64, parent as usize, action) {
-        opened(same, hints, key, old.estimate, i as u64, a as u64, old.goal)
+    let ours = u64::from(x.action);
+    let theirs = u64::from(old.action);
+    if paths::comes_first(t, x.slot, ours, old.parent, theirs) {
+        opened(
+            old.node,
+            hints,
+            key,
+            old.estimate,
+            x.slot,
+            x.action,
+            old.goal,
+        )
     } else {
-        opened(same, hints, key, old.estimate, parent, action, old.goal)
+        opened(
+            old.node,
+            hints,
+            key,
+            old.estimate,
+            old.parent,
+            old.action,
+            old.goal,
+        )
     }
 }

@@ -1,28 +1,19 @@
 -- Refusals 4 and 5 by what `read` answers at a section's start.
-use mathlib.Core.Path.{◌≡◌, refl, sym, ap, ◌∙◌}
-use mathlib.Core.Bool.{Bool, true, false}
-use mathlib.Core.List.{List}
-use Prim.Native.Nat.{ℕ, ◌+◌, ◌<◌, ◌≤◌}
-use native.Mathlib.Omega.{arith}
-use lib.ListN.{length}
-use lib.Dec.{ltb, eqb}
-use borrow.Author.Tests.{ltb-true, ltb-false, eq-eqb, ne_eqb}
-use Rattle.model.specs.declared.Verdict.{Verdict}
-use Rattle.model.specs.declared.Verdict.TheVariants.{Bad}
-use Rattle.model.specs.Verdict.{refusal}
+use Rattle.std.proofs.Common.{Ok, Err, ◌≡◌, refl, ap, ◌∙◌, Bool, true, false, List, ℕ, ◌+◌, ◌<◌, ◌≤◌, arith, length, ltb, eqb, ltb-true, ltb-false, eq-eqb}
+use Rattle.std.proofs.Common.{ne_eqb}
+use Rattle.model.specs.Verdict.{Verdict}
+use Rattle.model.specs.Refusal.{refusal}
 use Rattle.model.specs.logic.Formula.{Formula, choose}
 use Rattle.model.specs.logic.Reading.{Parsed, formula, wrong, parsed, whole, section}
 use Rattle.model.specs.job.Decoding.{formula_verdict}
 use Rattle.model.proofs.logic.ReadingLaws.{parsed_inside}
-use Rattle.formula.specs.Extent.{none, seen_in, extent}
-use Rattle.formula.specs.declared.Extent.{Extent}
-use Rattle.formula.specs.declared.Extent.TheVariants.{Whole, Wrong}
+use Rattle.formula.specs.Extent.{Extent, none, seen_in, extent}
 use Rattle.formula.proofs.Counting.{seen_verdict, seen_verdict_lem}
 
 -- refused for a wrong byte, for bytes that are left, or for the seventh part
 abbrev pub checked : List ℕ → ℕ → Extent → Verdict
-checked s o (Whole n seen) = choose (ltb n (length s)) (Bad (refusal 4 (o + n))) (seen_verdict o seen)
-checked s o (Wrong p) = Bad (refusal 4 (o + p))
+checked s o (Ok e) = choose (ltb e.next (length s)) (Err (refusal 4 (o + e.next))) (seen_verdict o e.seen.seventh)
+checked s o (Err w) = Err (refusal 4 (o + w.0))
 
 module _ (v a : ℕ) (s : List ℕ) (o : ℕ) where
   -- a formula that does not end after the bytes ends with them, or bytes are left
@@ -30,7 +21,7 @@ module _ (v a : ℕ) (s : List ℕ) (o : ℕ) where
   unfolding extent whole formula_verdict
   check_whole φ n h = go (ltb n (length s)) refl
     where
-      go : (t : Bool) → ltb n (length s) ≡ t → choose t (Bad (refusal 4 (o + n))) (seen_verdict o (seen_in φ false none 0))
+      go : (t : Bool) → ltb n (length s) ≡ t → choose t (Err (refusal 4 (o + n))) (seen_verdict o (seen_in φ false none 0).seventh)
           ≡ formula_verdict o (choose (eqb n (length s)) (formula φ n) (wrong n))
       go true e = let g : n < length s = ltb-true n (length s) e in rw (ne_eqb n (length s) (λ d. omega arith))
       go false e = let g : length s ≤ n = ltb-false n (length s) e in rw (eq-eqb n (length s) (omega arith)) (seen_verdict_lem o φ)
@@ -45,5 +36,5 @@ module _ (v a : ℕ) (s : List ℕ) (o : ℕ) where
       go (wrong p) e = refl
 
   -- what `read` answered decides
-  pub decides : (r : Extent) → r ≡ extent false none 0 (parsed v a s 0) → (x : Extent) → r ≡ x → checked s o x ≡ formula_verdict o (section v a s)
-  decides r e x f = ap (checked s o) (sym f ∙ e) ∙ check_is
+  pub decides : (r : Extent) → r ≡ extent false none 0 (parsed v a s 0) → checked s o r ≡ formula_verdict o (section v a s)
+  decides r e = ap (checked s o) e ∙ check_is

@@ -1,17 +1,10 @@
 -- Counting the carried parts on the way comes to the list of them: no more than may be, or the position of the seventh.
-use mathlib.Core.Path.{◌≡◌, refl, sym, ap, ◌∙◌}
-use mathlib.Core.Bool.{Bool, true, false}
-use mathlib.Core.List.{List, [], ◌∷◌, ◌++◌}
-use Prim.Native.Nat.{ℕ, zero, suc, ◌+◌, ◌<◌}
-use native.Mathlib.Omega.{arith}
-use lib.ListN.{drop}
-use lib.Dec.{leb}
-use borrow.Author.Tests.{lt-ltb, le-leb}
+use Rattle.std.proofs.Common.{Err, ◌≡◌, refl, sym, ap, ◌∙◌, Bool, true, false, List, [], ◌∷◌, ◌++◌, ℕ, zero, suc, ◌+◌, ◌<◌, arith, drop, lt-ltb, Option, None}
+use Rattle.std.proofs.Common.{Some}
 use Rattle.model.specs.declared.Unary.TheVariants.{Not, Next, Eventually, Always}
 use Rattle.model.specs.declared.Binary.TheVariants.{And, Or, Until, Release}
-use Rattle.model.specs.declared.Verdict.{Verdict}
-use Rattle.model.specs.declared.Verdict.TheVariants.{Fine, Bad}
-use Rattle.model.specs.Verdict.{refusal}
+use Rattle.model.specs.Verdict.{no_refusal, Verdict}
+use Rattle.model.specs.Refusal.{refusal}
 use Rattle.model.specs.logic.Formula.{Formula, constant, fact, action, unary, binary, choose}
 use Rattle.model.specs.logic.Parts.{most_parts, Part, parts, parts_of, temporal, size, count}
 use Rattle.model.specs.job.Decoding.{parts_verdict}
@@ -58,7 +51,8 @@ SeenParts φ = (s : Seen) (n at : ℕ) → see s (parts φ n at) ≡ seen_in φ 
 -- two operands' parts are seen in turn
 in_turn_lem : (φ ψ : Formula) → SeenParts φ → SeenParts ψ → (s : Seen) (n at m bt : ℕ)
     → see s (parts φ n at ++ parts ψ m bt) ≡ seen_in ψ false (seen_in φ false s at) bt
-in_turn_lem φ ψ e f s n at m bt = see_append s (parts φ n at) (parts ψ m bt) ∙ ap (λ (x : Seen). see x (parts ψ m bt)) (e s n at) ∙ f (seen_in φ false s at) m bt
+in_turn_lem φ ψ e f s n at m bt =
+    see_append s (parts φ n at) (parts ψ m bt) ∙ ap (λ (x : Seen). see x (parts ψ m bt)) (e s n at) ∙ f (seen_in φ false s at) m bt
 
 -- that holds of every formula
 seen_parts : (φ : Formula) → SeenParts φ
@@ -76,36 +70,39 @@ seen_parts (binary Or φ ψ) s n at = in_turn_lem φ ψ (seen_parts φ) (seen_pa
 seen_parts (binary Until φ ψ) s n at = in_turn_lem φ ψ (seen_parts φ) (seen_parts ψ) (note s at) (suc n) (suc at) (suc n + count φ) (suc at + size φ)
 seen_parts (binary Release φ ψ) s n at = in_turn_lem φ ψ (seen_parts φ) (seen_parts ψ) (note s at) (suc n) (suc at) (suc n + count φ) (suc at + size φ)
 
--- before the seventh part only the count changes
-note_more : (k z at : ℕ) → k < most_parts → note (record { parts = k; seventh = z }) at ≡ record { parts = k + 1; seventh = z }
-note_more k z at h = rw (lt-ltb k most_parts h)
+-- up to the sixth part only the count changes
+note_more : (k at : ℕ) → k < most_parts → note (record { parts = k; seventh = None }) at ≡ record { parts = k + 1; seventh = None }
+note_more k at h = rw (lt-ltb k most_parts h)
 
 -- after the seventh part nothing changes
-see_full : (ps : List Part) (z : ℕ) → see (record { parts = most_parts + 1; seventh = z }) ps ≡ record { parts = most_parts + 1; seventh = z }
+see_full : (ps : List Part) (p : ℕ) → see (record { parts = most_parts; seventh = Some p }) ps ≡ record { parts = most_parts; seventh = Some p }
 unfolding see
-see_full [] z = refl
-see_full (p ∷ ps) z = see_full ps z
+see_full [] p = refl
+see_full (q ∷ ps) p = see_full ps p
 
 -- refusal 5 by what was seen
-abbrev pub seen_verdict : ℕ → Seen → Verdict
-seen_verdict o s = choose (leb s.parts most_parts) Fine (Bad (refusal 5 (o + s.seventh)))
+abbrev pub seen_verdict : ℕ → Option ℕ → Verdict
+seen_verdict o None = no_refusal
+seen_verdict o (Some p) = Err (refusal 5 (o + p))
 
 -- refusal 5 by the parts from the seventh on
 abbrev head_verdict : ℕ → List Part → Verdict
-head_verdict o ps = elim ps [ [] ↦ Fine | p ∷ qs ↦ Bad (refusal 5 (o + p.position)) ]
+head_verdict o ps = elim ps [ [] ↦ no_refusal | p ∷ qs ↦ Err (refusal 5 (o + p.position)) ]
 
 -- with k parts seen, the seventh is the one that j parts stand before, as many as may still come
-see_seventh : (o j k z : ℕ) (ps : List Part) → k + j ≡ most_parts → seen_verdict o (see (record { parts = k; seventh = z }) ps) ≡ head_verdict o (drop j ps)
+see_seventh : (o j k : ℕ) (ps : List Part) → k + j ≡ most_parts
+    → seen_verdict o (see (record { parts = k; seventh = None }) ps).seventh ≡ head_verdict o (drop j ps)
 unfolding see
-see_seventh o zero k z [] e = rw (le-leb k most_parts (omega arith))
-see_seventh o (suc j) k z [] e = rw (le-leb k most_parts (omega arith))
-see_seventh o zero k z (p ∷ ps) e =
-    ap (seen_verdict o)
-    (ap (λ (x : ℕ). see (note (record { parts = x; seventh = z }) p.position) ps) (let h : k ≡ most_parts = omega arith in h) ∙ see_full ps p.position)
-see_seventh o (suc j) k z (p ∷ ps) e =
-    ap (λ (x : Seen). seen_verdict o (see x ps)) (note_more k z p.position (omega arith)) ∙ see_seventh o j (k + 1) z ps (omega arith)
+see_seventh o zero k [] e = refl
+see_seventh o (suc j) k [] e = refl
+see_seventh o zero k (p ∷ ps) e =
+    ap (λ (x : Seen). seen_verdict o x.seventh)
+    (ap (λ (x : ℕ). see (note (record { parts = x; seventh = None }) p.position) ps) (let h : k ≡ most_parts = omega arith in h) ∙ see_full ps p.position)
+see_seventh o (suc j) k (p ∷ ps) e =
+    ap (λ (x : Seen). seen_verdict o (see x ps).seventh) (note_more k p.position (omega arith)) ∙ see_seventh o j (k + 1) ps (omega arith)
 
 -- what is seen in a whole formula decides refusal 5
-pub seen_verdict_lem : (o : ℕ) (φ : Formula) → seen_verdict o (seen_in φ false none 0) ≡ parts_verdict o (parts_of φ)
+pub seen_verdict_lem : (o : ℕ) (φ : Formula) → seen_verdict o (seen_in φ false none 0).seventh ≡ parts_verdict o (parts_of φ)
 unfolding parts_verdict parts_of
-seen_verdict_lem o φ = ap (seen_verdict o) (sym (seen_parts φ none 0 0)) ∙ see_seventh o most_parts 0 0 (parts φ 0 0) refl
+seen_verdict_lem o φ =
+    ap (λ (x : Seen). seen_verdict o x.seventh) (sym (seen_parts φ none 0 0)) ∙ see_seventh o most_parts 0 (parts φ 0 0) refl

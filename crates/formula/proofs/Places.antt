@@ -1,42 +1,38 @@
 -- Every place that `check` reports lies in the section or at its end: no part and no wrong byte stands further on.
-use mathlib.Core.Path.{◌≡◌, refl, sym, ◌∙◌, subst}
-use mathlib.Core.Bool.{Bool, true, false, ◌||◌}
-use mathlib.Core.List.{List}
-use Prim.Native.Nat.{ℕ, zero, suc, ◌+◌, ◌-◌, ◌<◌, ◌≤◌}
-use native.Mathlib.Omega.{arith}
-use lib.ListN.{length, get_or}
-use lib.Dec.{ltb, eqb}
-use borrow.Author.Tests.{ltb-true}
+use Rattle.std.proofs.Common.{◌≡◌, refl, Bool, true, false, ◌||◌, List, ℕ, zero, suc, ◌+◌, ◌-◌, ◌<◌, ◌≤◌, arith, length, get_or, ltb, ltb-true, Option, None}
+use Rattle.std.proofs.Common.{Some, Ok, Err, IfSome}
 use Rattle.model.specs.declared.Code.{Code}
 use Rattle.model.specs.declared.Code.TheVariants.{Leaf, Fact, Action, One, Two, Unknown}
 use Rattle.model.specs.logic.Formula.{Formula, constant, fact, action, unary, binary, choose, code_of}
 use Rattle.model.specs.logic.Parts.{most_parts, size, temporal1, temporal2}
 use Rattle.model.specs.logic.Reading.{Parsed, formula, wrong, then, and_then, numbered, operands, node, parse, parsed}
 use Rattle.model.proofs.logic.ReadingLaws.{parsed_size, parsed_inside}
-use Rattle.formula.specs.Extent.{none, is_next, note, note_if, seen_in, extent}
+use Rattle.formula.specs.Extent.{Extent, none, is_next, first_at, note, note_if, seen_in, extent}
 use Rattle.formula.specs.declared.Seen.{Seen}
-use Rattle.formula.specs.declared.Extent.{Extent}
-use Rattle.formula.specs.declared.Extent.TheVariants.{Whole, Wrong}
 
 -- ---- the position of the seventh part
 module _ (b : ℕ) where
+  -- the seventh part, if there is one, is at most at b
+  abbrev SeventhUpTo : Seen → Type 0
+  SeventhUpTo s = IfSome s.seventh (λ p. p ≤ b)
+
   -- noting a part at most at b keeps the seventh at most at b
-  note_inside : (s : Seen) (at : ℕ) → s.seventh ≤ b → at ≤ b → (note s at).seventh ≤ b
-  note_inside s at h g = go (ltb s.parts most_parts) (eqb s.parts most_parts)
+  note_inside : (s : Seen) (at : ℕ) → SeventhUpTo s → at ≤ b → SeventhUpTo (note s at)
+  note_inside s at h g = go (ltb s.parts most_parts) s.seventh h
     where
-      go : (t u : Bool)
-          → (choose t (record { parts = s.parts + 1; seventh = s.seventh }) (choose u (record { parts = s.parts + 1; seventh = at }) s)).seventh ≤ b
-      go true u = h
-      go false true = g
-      go false false = h
+      go : (t : Bool) (z : Option ℕ) → IfSome z (λ p. p ≤ b)
+          → SeventhUpTo (choose t (record { parts = s.parts + 1; seventh = z }) (record { parts = s.parts; seventh = first_at z at }))
+      go true z h = h
+      go false None h = g
+      go false (Some p) h = h
 
   -- noting a formula only if it is a part keeps the seventh at most at b, too
-  note_if_inside : (t : Bool) (s : Seen) (at : ℕ) → s.seventh ≤ b → at ≤ b → (note_if t s at).seventh ≤ b
+  note_if_inside : (t : Bool) (s : Seen) (at : ℕ) → SeventhUpTo s → at ≤ b → SeventhUpTo (note_if t s at)
   note_if_inside true s at h g = note_inside s at h g
   note_if_inside false s at h g = h
 
   -- no part of a formula stands after its end
-  seen_inside : (φ : Formula) (under : Bool) (s : Seen) (at : ℕ) → s.seventh ≤ b → at + size φ ≤ b → (seen_in φ under s at).seventh ≤ b
+  seen_inside : (φ : Formula) (under : Bool) (s : Seen) (at : ℕ) → SeventhUpTo s → at + size φ ≤ b → SeventhUpTo (seen_in φ under s at)
   unfolding seen_in size
   seen_inside (constant c) under s at h g = note_if_inside under s at h (omega arith)
   seen_inside (fact i) under s at h g = note_if_inside under s at h (omega arith)
@@ -69,8 +65,8 @@ and_then_inside b (wrong p) k h g = h
 
 -- the places that an answer of `read` reports are at most b
 abbrev pub UpTo : ℕ → Extent → Type 0
-UpTo b (Whole n seen) = seen.seventh ≤ b
-UpTo b (Wrong p) = p ≤ b
+UpTo b (Ok e) = SeventhUpTo b e.seen
+UpTo b (Err w) = w.0 ≤ b
 
 module _ (v a : ℕ) (s : List ℕ) where
   -- a number that is missing or too large is wrong in the bytes or at their end
@@ -110,7 +106,7 @@ module _ (v a : ℕ) (s : List ℕ) where
   parse_inside (suc k) at = node_inside (parse v a s k) (parse_inside k) at
 
   -- what is read at a position reports places in the bytes or at their end
-  extent_inside : (under : Bool) (seen : Seen) (at : ℕ) → seen.seventh ≤ length s → UpTo (length s) (extent under seen at (parsed v a s at))
+  extent_inside : (under : Bool) (seen : Seen) (at : ℕ) → SeventhUpTo (length s) seen → UpTo (length s) (extent under seen at (parsed v a s at))
   unfolding extent parsed
   extent_inside under seen at h = go (parsed v a s at) refl (parse_inside (length s - at) at)
     where
@@ -120,5 +116,5 @@ module _ (v a : ℕ) (s : List ℕ) where
       go (wrong p) e w = w
 
   -- an answer at the start reports places in the bytes or at their end
-  pub answer_inside : (r : Extent) → r ≡ extent false none 0 (parsed v a s 0) → (x : Extent) → r ≡ x → UpTo (length s) x
-  answer_inside r e x f = subst (UpTo (length s)) (sym e ∙ f) (extent_inside false none 0 (omega arith))
+  pub answer_inside : (r : Extent) → r ≡ extent false none 0 (parsed v a s 0) → UpTo (length s) r
+  answer_inside r e = rw e (extent_inside false none 0 tt)

@@ -1,12 +1,6 @@
 -- Reading in the code goes by one node, as `parsed` does: what `read` answers, by the code at its position.
-use mathlib.Core.Path.{◌≡◌, refl, sym, ap, ◌∙◌}
-use mathlib.Core.Bool.{Bool, true, false, ◌||◌}
-use mathlib.Core.List.{List}
-use Prim.Native.Nat.{ℕ, ◌+◌, ◌<◌}
-use native.Mathlib.Numerals.{add-one}
-use native.Mathlib.Omega.{arith}
-use lib.ListN.{length, get_or}
-use lib.Dec.{ltb}
+use Rattle.std.proofs.Common.{◌≡◌, refl, sym, ap, ◌∙◌, Bool, true, false, ◌||◌, List, ℕ, ◌+◌, ◌<◌, add-one, arith, length, get_or, ltb, Ok, Err}
+use Rattle.std.proofs.Math.Bool.{or-false}
 use Rattle.model.specs.declared.Unary.{Unary}
 use Rattle.model.specs.declared.Binary.{Binary}
 use Rattle.model.specs.declared.Code.{Code}
@@ -15,32 +9,26 @@ use Rattle.model.specs.logic.Formula.{Formula, fact, action, unary, binary, choo
 use Rattle.model.specs.logic.Parts.{size, temporal1, temporal2}
 use Rattle.model.specs.logic.Reading.{Parsed, formula, wrong, then, and_then, numbered, operands, parsed}
 use Rattle.model.proofs.logic.ReadingLaws.{by_code, parsed_size, parsed_grows}
-use Rattle.formula.specs.Extent.{carries, is_next, note_if, seen_in, extent, number_extent}
+use Rattle.formula.specs.Extent.{carries, is_next, note_if, seen_in, Extent, whole, wrong_at, extent, number_extent}
 use Rattle.formula.specs.declared.Seen.{Seen}
-use Rattle.formula.specs.declared.Extent.{Extent}
-use Rattle.formula.specs.declared.Extent.TheVariants.{Whole, Wrong}
+use Rattle.formula.specs.declared.End.{End}
 
 -- the second operand is read where the first one's reading ended, with what was seen up to there
 abbrev go_on : Extent → (Bool → Seen → ℕ → Extent) → Extent
-go_on (Whole m between) r = r false between m
-go_on (Wrong p) r = Wrong p
+go_on (Ok e) r = r false e.seen e.next
+go_on (Err w) r = Err w
 
 -- what is answered after a code at a position, where r answers for the operands and the parts are seen up to the code's own
 unfoldable pub reading : Code → (Bool → Seen → ℕ → Extent) → ℕ → ℕ → List ℕ → Seen → ℕ → Extent
-reading (Leaf c) r v a s here at = Whole (at + 1) here
+reading (Leaf c) r v a s here at = whole (at + 1) here
 reading Fact r v a s here at = number_extent v s here (at + 1)
 reading Action r v a s here at = number_extent a s here (at + 1)
 reading (One o) r v a s here at = r (is_next o) here (at + 1)
 reading (Two o) r v a s here at = go_on (r false here (at + 1)) r
-reading Unknown r v a s here at = Wrong at
-
--- a formula with no operand is a part only under a next
-or-false : (b : Bool) → b || false ≡ b
-or-false true = refl
-or-false false = refl
+reading Unknown r v a s here at = wrong_at at
 
 module _ (v a : ℕ) (s : List ℕ) (under : Bool) (seen : Seen) (at : ℕ) where
-  -- a fact or an action has no part inside
+  -- a fact or an action has no part inside; it is a part only under a next
   extent_numbered : (f : ℕ → Formula) → ((i : ℕ) → seen_in (f i) under seen at ≡ note_if under seen at) → (b : ℕ)
       → extent under seen at (numbered v a s f b (at + 1)) ≡ number_extent b s (note_if (under || false) seen at) (at + 1)
   unfolding numbered extent number_extent
@@ -48,10 +36,10 @@ module _ (v a : ℕ) (s : List ℕ) (under : Bool) (seen : Seen) (at : ℕ) wher
     where
       go : (t u : Bool)
           → extent under seen at (choose t (choose u (formula (f (get_or s (at + 1) 0)) (at + 1 + 1)) (wrong (at + 1))) (wrong (length s)))
-          ≡ choose t (choose u (Whole (at + 1 + 1) (note_if under seen at)) (Wrong (at + 1))) (Wrong (length s))
+          ≡ choose t (choose u (whole (at + 1 + 1) (note_if under seen at)) (wrong_at (at + 1))) (wrong_at (length s))
       go false u = refl
       go true false = refl
-      go true true = ap (Whole (at + 1 + 1)) (e (get_or s (at + 1) 0))
+      go true true = ap (whole (at + 1 + 1)) (e (get_or s (at + 1) 0))
 
   -- the operand of a unary operator stands one byte on
   extent_one : (o : Unary) (p : Parsed) → extent under seen at (then (unary o) p) ≡ extent (is_next o) (note_if (under || temporal1 o) seen at) (at + 1) p
@@ -98,28 +86,10 @@ module _ (v a : ℕ) (s : List ℕ) (under : Bool) (seen : Seen) (at : ℕ) wher
       ap (extent under seen at) (by_code v a s at k h (sym e)) ∙ operands_read k (parsed v a s) (parsed_size v a s (at + 1))
 
   -- a formula that was read ends after its first byte
-  pub read_grows : (r : Extent) → r ≡ extent under seen at (parsed v a s at) → (n : ℕ) (after : Seen) → r ≡ Whole n after → at < n
+  pub read_grows : (e : End) → Ok e ≡ extent under seen at (parsed v a s at) → at < e.next
   unfolding extent
-  read_grows r e n after f = go (parsed v a s at) refl e
+  read_grows e d = go (parsed v a s at) refl d
     where
-      go : (p : Parsed) → parsed v a s at ≡ p → r ≡ extent under seen at p → at < n
-      go (formula φ m) d e = let g : at < m = parsed_grows v a s at φ m d in let h : n ≡ m = cc in omega arith
-      go (wrong p) d e = let z : ◌≡◌ {A = ℕ} 0 1 = cc in absurd (omega arith)
-
--- ---- the arms with operands, where w is the answer by the code
-module _ (r : Bool → Seen → ℕ → Extent) (v a : ℕ) (s : List ℕ) (here : Seen) (at : ℕ) (w : Extent) where
-  -- the answer for one operand is the answer
-  pub one_answers : (o : Unary) → w ≡ reading (One o) r v a s here at → (u : Bool) → u ≡ is_next o → (x : Extent) → x ≡ r u here (at + 1) → x ≡ w
-  unfolding reading
-  one_answers o e u g x f = f ∙ ap (λ (b : Bool). r b here (at + 1)) g ∙ sym e
-
-  module _ (o : Binary) (e : w ≡ reading (Two o) r v a s here at) (y : Extent) (f : y ≡ r false here (at + 1)) where
-    -- where the first of two operands is whole, the answer for the second is the answer
-    pub two_answers : (m : ℕ) (between : Seen) → y ≡ Whole m between → (x : Extent) → x ≡ r false between m → x ≡ w
-    unfolding reading
-    two_answers m between g x h = h ∙ sym (e ∙ ap (λ (z : Extent). go_on z r) (sym f ∙ g))
-
-    -- where the first of two operands is wrong, its answer is the answer
-    pub two_wrong : (p : ℕ) → y ≡ Wrong p → Wrong p ≡ w
-    unfolding reading
-    two_wrong p g = sym (e ∙ ap (λ (z : Extent). go_on z r) (sym f ∙ g))
+      go : (p : Parsed) → parsed v a s at ≡ p → Ok e ≡ extent under seen at p → at < e.next
+      go (formula φ m) f d = let g : at < m = parsed_grows v a s at φ m f in let h : e.next ≡ m = cc in omega arith
+      go (wrong p) f d = cc

@@ -1,12 +1,7 @@
 -- The system of a job that is asked for: it meets the laws of exploration, its counts are those of the bytes, steps that are applicable are the job's
 -- own, and only nodes with an estimate are reached.
-use mathlib.Core.Path.{◌≡◌, ap, ◌∙◌}
-use mathlib.Core.Bool.{true}
-use mathlib.Core.Option.{Option, none, some}
-use mathlib.Core.List.{List}
-use Prim.Native.Nat.{ℕ, ◌≤◌, ◌<◌}
-use native.Mathlib.Omega.{arith}
-use Rattle.model.specs.declared.Verdict.TheVariants.{Fine}
+use Rattle.std.proofs.Common.{◌≡◌, ap, ◌∙◌, true, Option, None, Some, List, ℕ, ◌≤◌, ◌<◌, arith}
+use Rattle.model.specs.Verdict.{no_refusal}
 use Rattle.model.specs.Bits.{bit}
 use Rattle.model.specs.job.Job.{action_of}
 use Rattle.model.specs.job.Layout.{action_count, constraint_count, hint_count, job_of}
@@ -18,11 +13,19 @@ use Rattle.model.specs.search.JobSystem.{next_node, node_estimate}
 use Rattle.model.specs.search.Query.{Query, job_for}
 use Rattle.model.proofs.exploration.Laws.{Laws, Finite}
 use Rattle.model.proofs.exploration.Guiding.{kept_some, kept_none, kept_out}
-use Rattle.model.proofs.job.Accepted.{accepted_proper}
+use Rattle.model.proofs.job.Accepted.{accepted_proper, length-actions, length-constraints, length-hints}
 use Rattle.model.proofs.job.GuidedJob.{job_laws, job_finite}
 use Rattle.model.proofs.rights.Steps.{length-restricted, action_usable, applicable_usable, next_usable, restricted_proper}
-use Rattle.model.proofs.job.Accepted.{length-actions, length-constraints, length-hints}
 use Rattle.held.specs.Held.{sys, node_for, HasEstimate}
+
+module _ (bytes : List ℕ) (h : job_verdict bytes ≡ no_refusal) where
+  -- An accepted job has at most 8 constraints.
+  pub few_constraints : constraint_count bytes ≤ 8
+  few_constraints = omega (arith, length-constraints bytes, (accepted_proper bytes h).few_constraints)
+
+  -- An accepted job has at most 8 hints.
+  pub few_hints : hint_count bytes ≤ 8
+  few_hints = omega (arith, length-hints bytes, (accepted_proper bytes h).few_hints)
 
 module _ (job : Query) where
   -- It meets the laws of exploration.
@@ -33,22 +36,9 @@ module _ (job : Query) where
   pub sys_actions : (sys job).actions ≡ action_count job.bytes
   sys_actions = length-restricted job.usable (job_of job.bytes) ∙ length-actions job.bytes
 
-  module _ (h : job_verdict job.bytes ≡ Fine) where
-    -- An accepted job has finitely many nodes.
-    pub sys_finite : Finite (sys job)
-    sys_finite = job_finite (job_for job) (restricted_proper job.usable (job_of job.bytes) (accepted_proper job.bytes h))
-
-    -- An accepted job has at most 64 actions.
-    pub few_actions : action_count job.bytes ≤ 64
-    few_actions = omega (arith, length-actions job.bytes, (accepted_proper job.bytes h).few_actions)
-
-    -- An accepted job has at most 8 constraints.
-    pub few_constraints : constraint_count job.bytes ≤ 8
-    few_constraints = omega (arith, length-constraints job.bytes, (accepted_proper job.bytes h).few_constraints)
-
-    -- An accepted job has at most 8 hints.
-    pub few_hints : hint_count job.bytes ≤ 8
-    few_hints = omega (arith, length-hints job.bytes, (accepted_proper job.bytes h).few_hints)
+  -- An accepted job has finitely many nodes.
+  pub sys_finite : job_verdict job.bytes ≡ no_refusal → Finite (sys job)
+  sys_finite h = job_finite (job_for job) (restricted_proper job.usable (job_of job.bytes) (accepted_proper job.bytes h))
 
   -- ---- a step that is applicable
 
@@ -74,13 +64,13 @@ module _ (job : Query) where
   same_estimated d x = record { is = ap (node_estimate (job_for job)) d ∙ x.is; fits = x.fits }
 
   -- A node that has an estimate is reached.
-  pub reached_some : {o : Option Node} {a : List ℕ} {e : ℕ} → o ≡ some (node_for job.bytes a) → HasEstimate job a e
-      → reached_of o ≡ some (node_for job.bytes a)
+  pub reached_some : {o : Option Node} {a : List ℕ} {e : ℕ} → o ≡ Some (node_for job.bytes a) → HasEstimate job a e
+      → reached_of o ≡ Some (node_for job.bytes a)
   reached_some {o} {a} d e = (kept_some (λ (n : Node). has (node_estimate (job_for job) n)) o (node_for job.bytes a)).1 (d, ap has e.is)
 
   -- A node that has none is not.
-  pub reached_hopeless : {o : Option Node} {n : Node} → o ≡ some n → node_estimate (job_for job) n ≡ none → reached_of o ≡ none
+  pub reached_hopeless : {o : Option Node} {n : Node} → o ≡ Some n → node_estimate (job_for job) n ≡ None → reached_of o ≡ None
   reached_hopeless d e = kept_out (λ (n : Node). has (node_estimate (job_for job) n)) d (ap has e)
 
-  pub reached_none : {o : Option Node} → o ≡ none → reached_of o ≡ none
+  pub reached_none : {o : Option Node} → o ≡ None → reached_of o ≡ None
   reached_none d = kept_none (λ (n : Node). has (node_estimate (job_for job) n)) d

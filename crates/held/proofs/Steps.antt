@@ -1,27 +1,20 @@
 -- How many steps a record has: a taken one fewer than there are taken records, so that one step more fits a slot.
-use mathlib.Core.Path.{◌≡◌, refl, ap, ◌∙◌, subst}
-use mathlib.Core.Bool.{Bool, true, false}
-use mathlib.Core.Logic.{◌⊎◌, inl, inr}
-use mathlib.Core.List.Memᴰ.{head as here}
-use mathlib.Core.List.Memᴰ.{tail as there}
-use mathlib.Core.List.{List, [], ◌∷◌, Memᴰ}
-use Prim.Native.Nat.{ℕ, zero, suc, ◌+◌, ◌*◌, ◌≤◌, ◌<◌}
-use native.Mathlib.Omega.{arith}
-use lib.Dec.{eqb}
-use lib.ListN.{length, set, length-set}
-use borrow.Author.Tests.{eqb-true, eq-eqb, ne_eqb}
+use Rattle.std.proofs.Common.{◌≡◌, refl, ap, ◌∙◌, subst, Bool, true, false, ◌⊎◌, inl, inr, List, [], ◌∷◌, ℕ, zero, suc, ◌+◌, ◌≤◌, ◌<◌, arith, eqb, length, set}
+use Rattle.std.proofs.Common.{length-set, eqb-true, eq-eqb, ne_eqb}
+use mathlib.Core.List.{Memᴰ}
+use mathlib.Core.List.Memᴰ.{head as here, tail as there}
 use Rattle.model.specs.exploration.System.{System}
 use Rattle.model.specs.exploration.Explore.{Entry}
 use Rattle.model.specs.search.Node.{Node}
 use Rattle.model.specs.search.Query.{Query}
-use Rattle.model.specs.calls.Search.{slot_bytes}
 use Rattle.model.proofs.exploration.Each.{All, all_map}
 use Rattle.model.proofs.exploration.Counting.{Apart, apart_length}
 use Rattle.astar.specs.Records.{Held, Table, take-it}
 use Rattle.astar.proofs.Slots.{Holds, holds_one}
 use Rattle.astar.proofs.Invariant.{Linked, Inv, linked_steps, steps_linked}
 use Rattle.astar.proofs.Taken.{taken_in, taken_le, taken_take}
-use Rattle.table.specs.Slots.{slot_at}
+use Rattle.table.specs.declared.Slot.{Slot}
+use Rattle.table.specs.Slots.{slot_in}
 use Rattle.held.specs.Held.{sys, held_is, held_in}
 use Rattle.held.proofs.HeldLaws.{length-held, held_at}
 
@@ -110,18 +103,18 @@ module _ (S : System) where
 
 -- ---- the same of slots
 
-module _ (job : Query) {m0 : Node} (n : ℕ) (t : List ℕ) {P : Entry (sys job) → Type 0} (inv : Inv (sys job) m0 (held_in job.bytes n t) P)
-    (room : n * slot_bytes ≤ length t) where
+module _ (job : Query) {m0 : Node} (ss : List Slot) {P : Entry (sys job) → Type 0} (inv : Inv (sys job) m0 (held_in job.bytes ss) P) where
   -- Slot i is taken, and another is open or free: one step more has 16 bits.
-  pub next_fits : {places : ℕ} (i : ℕ) → i < n → (slot_at t i).taken ≡ true → ((j : ℕ) × (j < n) × ((slot_at t j).taken ≡ false)) ⊎ (n < places)
-      → n ≤ places → places ≤ 65536
-      → (slot_at t i).steps + 1 < 65536
+  pub next_fits : {places : ℕ} (i : ℕ) → i < length ss → (slot_in ss i).taken ≡ true
+      → ((j : ℕ) × (j < length ss) × ((slot_in ss j).taken ≡ false)) ⊎ (length ss < places)
+      → length ss ≤ places → places ≤ 65536
+      → (slot_in ss i).steps + 1 < 65536
   unfolding held_is
   next_fits {places} i l y o h m =
-      next_steps (sys job) inv {places = places} i (held_is job.bytes (slot_at t i)) (held_at job.bytes n t i l room) y (go o)
-      (omega (arith, length-held job.bytes n t room)) m
+      next_steps (sys job) inv {places = places} i (held_is job.bytes (slot_in ss i)) (held_at job.bytes ss i l) y (go o)
+      (omega (arith, length-held job.bytes ss)) m
     where
-      go : ((j : ℕ) × (j < n) × ((slot_at t j).taken ≡ false)) ⊎ (n < places)
-          → ((j : ℕ) × (q : Held (sys job)) × Holds (held_in job.bytes n t) j q × (q.taken ≡ false)) ⊎ (length (held_in job.bytes n t) < places)
-      go (inl p) = inl (p.0, held_is job.bytes (slot_at t p.0), held_at job.bytes n t p.0 p.1 room, p.2)
-      go (inr p) = inr (omega (arith, length-held job.bytes n t room))
+      go : ((j : ℕ) × (j < length ss) × ((slot_in ss j).taken ≡ false)) ⊎ (length ss < places)
+          → ((j : ℕ) × (q : Held (sys job)) × Holds (held_in job.bytes ss) j q × (q.taken ≡ false)) ⊎ (length (held_in job.bytes ss) < places)
+      go (inl p) = inl (p.0, held_is job.bytes (slot_in ss p.0), held_at job.bytes ss p.0 p.1, p.2)
+      go (inr p) = inr (omega (arith, length-held job.bytes ss))

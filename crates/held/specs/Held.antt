@@ -1,7 +1,5 @@
 -- The slots of a table as the records of a search, for what is asked.
-use Rattle.std.specs.Prelude.{◌≡◌, ℕ, ◌*◌, ◌≤◌, ◌<◌, take}
-use Rattle.std.proofs.Math.Option.{Option, none, some}
-use mathlib.Core.List.{List, map}
+use Rattle.std.specs.Prelude.{◌≡◌, ℕ, ◌*◌, ◌≤◌, ◌<◌, Some, List, map}
 use Rattle.model.specs.exploration.System.{System}
 use Rattle.model.specs.job.Layout.{constraint_count, hint_count, job_of}
 use Rattle.model.specs.search.Node.{Node}
@@ -10,9 +8,6 @@ use Rattle.model.specs.search.Query.{Query, job_for}
 use Rattle.model.proofs.exploration.Each.{All}
 use Rattle.astar.specs.Records.{HeldOf}
 use Rattle.table.specs.declared.Slot.{Slot}
-use Rattle.table.specs.declared.Found.{Found}
-use Rattle.table.specs.declared.Found.TheVariants.{At, Nothing}
-use Rattle.table.specs.Slots.{slots}
 use Rattle.nodes.specs.Meaning.{node_is, Clean, hints_is, CleanHints}
 
 -- the system of what is asked
@@ -39,10 +34,10 @@ module _ (job : List ℕ) where
         taken = s.taken;
       }
 
-  -- the first n slots of a table
-  unfoldable pub held_in : ℕ → List ℕ → List (HeldOf Node (List ℕ))
-  unfolding held_is slots
-  held_in n table = map held_is (take n (slots table))
+  -- the records of the slots in use
+  unfoldable pub held_in : List Slot → List (HeldOf Node (List ℕ))
+  unfolding held_is
+  held_in ss = map held_is ss
 
   -- A slot is well formed: nothing stands after its last residuals, its goal mark is its node's, and its cost is a sum of 16-bit numbers.
   pub record Formed (s : Slot) : Type 0 where
@@ -60,7 +55,7 @@ FitsSlot e = e < 1073741824
 module _ (job : Query) where
   -- The node of an array has this estimate, which fits a slot.
   pub record HasEstimate (a : List ℕ) (e : ℕ) : Type 0 where
-    pub is : node_estimate (job_for job) (node_for job.bytes a) ≡ some e
+    pub is : node_estimate (job_for job) (node_for job.bytes a) ≡ Some e
     pub fits : FitsSlot e
 
   -- What holds of every slot in use: it is well formed, and its estimate is its node's.
@@ -68,10 +63,5 @@ module _ (job : Query) where
     pub formed : Formed job.bytes s
     pub estimated : HasEstimate s.node s.estimate
 
-  abbrev pub SoundTo : ℕ → List ℕ → Type 0
-  SoundTo n table = All Sound (take n (slots table))
-
--- a slot's number as an option
-abbrev pub slot_option : Found → Option ℕ
-slot_option (At i) = some i
-slot_option Nothing = none
+  abbrev pub AllSound : List Slot → Type 0
+  AllSound ss = All Sound ss

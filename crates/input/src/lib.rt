@@ -15,6 +15,7 @@ pub fn read_full<R: Read>(from: &mut R, buffer: &mut [u8]) -> io::Result<usize>
     ensures whole { IfOk result (λ n. (n ≡ length buffer.new) ⊎ IsAtEnd (R.remaining from.new)) }
 {
     let mut at = 0;
+    // A read tells how much it gave, so the positions are no range.
     while at < buffer.len() {
         let n = from.read(&mut buffer[at..])?;
         if n == 0 {

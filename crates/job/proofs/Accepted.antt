@@ -1,34 +1,18 @@
 -- What acceptance says of a job's bytes, for the code that reads accepted jobs.
-use mathlib.Core.Path.{◌≡◌, ◌∙◌}
-use Prim.Native.Nat.{ℕ, ◌+◌, ◌-◌, ◌≤◌, ◌<◌}
-use native.Mathlib.Omega.{arith}
-use mathlib.Core.List.{List}
-use lib.ListN.{length, take, drop, length-drop}
-use lib.Seq.{length-take-le}
-use Rattle.model.specs.declared.Verdict.TheVariants.{Fine}
+use Rattle.std.proofs.Common.{◌≡◌, ◌∙◌, ℕ, ◌+◌, ◌-◌, ◌≤◌, ◌<◌, arith, List, length, drop, length-drop, length-take-le}
+use Rattle.model.specs.Verdict.{no_refusal}
 use Rattle.model.specs.logic.Formula.{Formula}
 use Rattle.model.specs.logic.Parts.{most_parts, parts_of}
-use Rattle.model.specs.logic.Reading.{formula, parsed, section}
+use Rattle.model.specs.logic.Reading.{formula, parsed}
 use Rattle.model.specs.job.Job.{Action, action_of, no_action}
-use Rattle.model.specs.job.Layout.{fact_count, action_count, constraint_count, hint_count, pair_count, pair_offset, pair_length, section_bytes, action_at, formula_in, formula_at, job_of}
-use Rattle.model.specs.job.Decoding.{formula_verdict, job_verdict}
+use Rattle.model.specs.job.Layout.{fact_count, action_count, constraint_count, hint_count, pair_count, pair_offset, pair_length, section_bytes, action_at}
+use Rattle.model.specs.job.Layout.{formula_in, formula_at, job_of}
+use Rattle.model.specs.job.Decoding.{job_verdict}
 use Rattle.model.proofs.logic.ReadingLaws.{section_from, parsed_wider}
 use Rattle.model.proofs.job.VerdictLaws.{get_or-list_of}
 use Rattle.model.proofs.job.Accepted.{section_fine, accepted_checks, each_formula}
 use Rattle.job.specs.Laid.{Laid, Formulated}
-use Rattle.job.proofs.Bounds.{laid}
-
--- A section's bytes, as they are lent on: from its offset o to o + n.
-module _ (bytes : List ℕ) (i : ℕ) where
-  pub lent : {o n : ℕ} → o ≡ pair_offset bytes i → n ≡ pair_length bytes i → take (o + n - o) (drop o bytes) ≡ section_bytes bytes i
-  unfolding section_bytes
-  lent {o} {n} p q = let d : o + n - o ≡ pair_length bytes i = omega arith in rw (d, p)
-
-  -- The check of a section that is lent on.
-  pub lent_checked : {o n v a : ℕ} → o ≡ pair_offset bytes i → n ≡ pair_length bytes i → v ≡ fact_count bytes → a ≡ action_count bytes
-      → formula_verdict o (section v a (take (o + n - o) (drop o bytes))) ≡ formula_verdict (pair_offset bytes i) (formula_in bytes i)
-  unfolding formula_in
-  lent_checked p q f g = rw (lent p q, p, f, g)
+use Rattle.job.proofs.Bounds.{some_pairs, task_pair, laid, head_there, action_there}
 
 module _ (bytes : List ℕ) where
   section_size : (i : ℕ) → pair_offset bytes i + pair_length bytes i ≤ length bytes → length (section_bytes bytes i) ≡ pair_length bytes i
@@ -54,9 +38,14 @@ pub field_read : (bytes : List ℕ) {i k : ℕ} → k ≡ i → i < action_count
 field_read bytes {i} e l f h = rw (action_of_lem bytes i l, ← e) h
 
 -- ---- an accepted job
-module _ (bytes : List ℕ) (h : job_verdict bytes ≡ Fine) where
+module _ (bytes : List ℕ) (h : job_verdict bytes ≡ no_refusal) where
   pub accepted_laid : Laid bytes
   accepted_laid = laid bytes (accepted_checks bytes h).0 (accepted_checks bytes h).1
+
+  -- There are at most sixteen formulas.
+  pub few_pairs : pair_count bytes ≤ 17
+  unfolding pair_count
+  few_pairs = let l = accepted_laid in omega arith
 
   formulated_next : (i : ℕ) → i < constraint_count bytes + hint_count bytes → 1 + i < pair_count bytes → Formulated bytes (1 + i)
   formulated_next i l m = record {
@@ -87,7 +76,5 @@ module _ (bytes : List ℕ) (h : job_verdict bytes ≡ Fine) where
       let e : 1 + (i - 1) ≡ i = omega arith in
       rw e at (formulated_next (i - 1) (omega arith) (omega arith))
 
-  -- The formula in a section that is lent on.
-  pub accepted_lent : (i : ℕ) {o n : ℕ} → 1 ≤ i → i < pair_count bytes → o ≡ pair_offset bytes i → n ≡ pair_length bytes i
-      → parsed 64 64 (take (o + n - o) (drop o bytes)) 0 ≡ formula (formula_at bytes i) n
-  accepted_lent i m l p q = rw (lent bytes i p q, q) (accepted_formula i m l).read
+-- By these a reader of an accepted job finds that all which it reads is there.
+pub ruleset reading = (accepted_laid, few_pairs, some_pairs, head_there, action_there)

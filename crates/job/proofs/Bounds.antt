@@ -1,17 +1,8 @@
 -- Where the head and the pairs of a job are fine, all that a reader looks at is there.
-use mathlib.Core.Path.{◌≡◌}
-use Prim.Native.Nat.{ℕ, zero, suc, ◌+◌, ◌-◌, ◌*◌, ◌≤◌, ◌<◌}
-use native.Mathlib.Omega.{arith}
-use native.Mathlib.Nat.{mul-suc, mul-le-mul_left}
-use mathlib.Core.Bool.{true}
-use mathlib.Core.List.{List}
-use lib.Dec.{leb, eqb}
-use lib.ListN.{length}
-use borrow.Author.Tests.{leb-true}
-use Rattle.model.specs.declared.Verdict.TheVariants.{Fine}
-use Rattle.model.specs.Verdict.{in_turn}
-use Rattle.model.specs.job.Layout.{set_bytes, cost_bytes, task_head, action_bytes, action_count, pair_count, pair_offset, pair_length}
-use Rattle.model.specs.job.Layout.{task_bytes, set_count, action_offset, set_offset, cost_offset}
+use Rattle.std.proofs.Common.{◌≡◌, ℕ, zero, suc, ◌+◌, ◌*◌, ◌≤◌, ◌<◌, arith, mul-suc, mul-le-mul_left, true, List, leb, eqb, length, leb-true}
+use Rattle.model.specs.Verdict.{no_refusal, in_turn}
+use Rattle.model.specs.job.Layout.{set_bytes, action_bytes, action_count, pair_count, pair_offset, pair_length, task_bytes, set_count, action_offset}
+use Rattle.model.specs.job.Layout.{set_offset}
 use Rattle.model.specs.job.Decoding.{head_verdict, section_start, right_length, pair_verdict, pairs_verdict}
 use Rattle.model.proofs.Tests.{and_both}
 use Rattle.model.proofs.job.Forms.{task_length}
@@ -26,12 +17,12 @@ module _ (bytes : List ℕ) where
       (leb (8 + 4 * i) (length bytes) ≡ true) × (eqb (pair_offset bytes i) (section_start bytes i) ≡ true)
       × (right_length bytes i (pair_length bytes i) ≡ true) × (leb (pair_offset bytes i + pair_length bytes i) (length bytes) ≡ true)
 
-  pair_tests : (n : ℕ) → in_turn n (pair_verdict bytes) ≡ Fine → (i : ℕ) → i < n → PairTrue i
+  pair_tests : (n : ℕ) → in_turn n (pair_verdict bytes) ≡ no_refusal → (i : ℕ) → i < n → PairTrue i
   unfolding pair_verdict
   pair_tests n h i l = four_true _ _ _ _ ((unless_fine _ 2 i).0 ((in_turn_fine n (pair_verdict bytes)).0 h i l))
 
   -- A pair that is fine has its four bytes.
-  pair_whole : (n : ℕ) → in_turn n (pair_verdict bytes) ≡ Fine → (i : ℕ) → i < n → 8 + 4 * i ≤ length bytes
+  pair_whole : (n : ℕ) → in_turn n (pair_verdict bytes) ≡ no_refusal → (i : ℕ) → i < n → 8 + 4 * i ≤ length bytes
   pair_whole n h i l = leb-true (8 + 4 * i) (length bytes) (pair_tests n h i l).0
 
   -- There is a pair for the task.
@@ -39,17 +30,13 @@ module _ (bytes : List ℕ) where
   unfolding pair_count
   some_pairs = omega arith
 
-  -- If all pairs are fine, all their bytes are there.
-  pub pairs_whole : in_turn (pair_count bytes) (pair_verdict bytes) ≡ Fine → 4 + 4 * pair_count bytes ≤ length bytes
-  pairs_whole h = omega (arith, some_pairs, pair_whole (pair_count bytes) h (pair_count bytes - 1) (omega (arith, some_pairs)))
-
   formula_length : (i n : ℕ) → 1 ≤ i → right_length bytes i n ≡ true → n ≤ 128
   unfolding right_length
   formula_length zero n l h = absurd (omega arith)
   formula_length (suc i) n l h = leb-true n 128 ((and_both (leb 1 n) (leb n 128)).0 h).1
 
   -- If the head and the pairs are fine, all is there.
-  pub laid : head_verdict bytes ≡ Fine → pairs_verdict bytes ≡ Fine → Laid bytes
+  pub laid : head_verdict bytes ≡ no_refusal → pairs_verdict bytes ≡ no_refusal → Laid bytes
   unfolding pairs_verdict
   laid h p = record {
     head = head_fine bytes h;
@@ -59,40 +46,21 @@ module _ (bytes : List ℕ) where
     few_bytes = λ i m l. formula_length i _ m (tests i l).2;
   }
     where
-      each : in_turn (pair_count bytes) (pair_verdict bytes) ≡ Fine
+      each : in_turn (pair_count bytes) (pair_verdict bytes) ≡ no_refusal
       each = ((or_else_fine (in_turn (pair_count bytes) (pair_verdict bytes)) _).0 p).0
 
       tests : (i : ℕ) → i < pair_count bytes → PairTrue i
       tests = pair_tests (pair_count bytes) each
 
--- The start and the goal fit before the actions.
-head_fits : set_bytes + set_bytes ≤ task_head
-head_fits = omega arith
-
 -- One of n pieces of s bytes ends where the last one does, or before it.
 piece_within : (s i n : ℕ) → i < n → s * i + s ≤ s * n
 piece_within s i n h = rw (← mul-suc s i) (mul-le-mul_left s h)
 
--- Where the bytes of the task are there, each of its numbers is.
-module _ {bytes : List ℕ} (h : HeadThere bytes) where
-  pub start_inside : pair_offset bytes 0 + set_bytes ≤ length bytes
-  start_inside = omega (arith, h.whole, head_fits)
-
-  pub goal_inside : pair_offset bytes 0 + set_bytes + set_bytes ≤ length bytes
-  goal_inside = omega (arith, h.whole, head_fits)
-
+-- Where the bytes of an action are there, each of its sets is.
 module _ {bytes : List ℕ} {i : ℕ} (h : ActionThere bytes i) where
   pub set_inside : (k : ℕ) → k < set_count bytes → set_offset bytes i k + set_bytes ≤ length bytes
   unfolding set_offset
   set_inside k l = omega (arith, h.whole)
-
-  pub set_starts : (k : ℕ) → k ≤ set_count bytes → set_offset bytes i k ≤ length bytes
-  unfolding set_offset
-  set_starts k l = omega (arith, h.whole)
-
-  pub cost_inside : cost_offset bytes i + cost_bytes ≤ length bytes
-  unfolding cost_offset
-  cost_inside = omega (arith, h.whole)
 
 -- Where the head and the pairs are fine, the bytes of the task are there.
 module _ {bytes : List ℕ} (l : Laid bytes) where

@@ -1,16 +1,7 @@
 -- Whether a number of 64 bits has no bit at or above n, as the code tests it.
-use mathlib.Core.Path.{◌≡◌}
-use mathlib.Core.Bool.{true}
-use Prim.Native.Nat.{ℕ, ◌/◌, ◌^◌, ◌*◌, ◌≤◌, ◌<◌}
-use native.Mathlib.Omega.{arith}
-use native.Mathlib.Decide.{dec_lt}
-use native.Mathlib.Nat.{div-eq_of_lt, le-div_iff_mul-le}
-use lib.Dec.{eqb, ltb}
-use lib.Pow.{pow_pos}
-use borrow.Author.Tests.{lt-ltb, le-ltb, ne_eqb}
-
-pub all_fit : (x n : ℕ) → x < 2 ^ 64 → n ≡ 64 → true ≡ ltb x (2 ^ n)
-all_fit x n l e = rw (e, lt-ltb x (2 ^ 64) l)
+use Rattle.std.proofs.Common.{◌≡◌, ℕ, ◌/◌, ◌^◌, ◌*◌, ◌≤◌, ◌<◌, arith, le-div_iff_mul-le, eqb, ltb, pow_pos, lt-ltb, le-ltb, ne_eqb}
+use Rattle.std.proofs.Math.Decide.{dec_lt}
+use Rattle.std.proofs.Math.Nat.{div-eq_of_lt}
 
 -- Nothing is left of it above its lowest n bits.
 pub none_above : (x n : ℕ) → eqb (x / 2 ^ n) 0 ≡ ltb x (2 ^ n)

@@ -1,45 +1,41 @@
--- Laws of checks made one after the other, as the code makes them: u is what the code has of a check, r whether it refuses.
-use mathlib.Core.Path.{◌≡◌, refl, sym, ◌∙◌}
-use Prim.Native.Nat.{ℕ, ◌+◌, ◌<◌}
-use native.Mathlib.Numerals.{add-one}
-use mathlib.Core.Bool.{Bool, true, false, true≢false}
-use Rattle.model.specs.declared.Verdict.{Verdict}
-use Rattle.model.specs.declared.Verdict.TheVariants.{Fine, Bad}
-use Rattle.model.specs.Verdict.{or_else, in_turn}
+-- Laws of checks made one after the other, as the code makes them: the first that refuses decides. The `?` after one that refuses with r answers u.
+use Rattle.std.proofs.Common.{◌≡◌, ℕ, ◌+◌, ◌<◌, refl, sym, ap, ◌∙◌, Result, Err, IsErrAnd, add-one}
+use Rattle.std.proofs.lemmas.Result.{err_from_is_err_and}
+use Rattle.model.specs.Refusal.{Refusal}
+use Rattle.model.specs.Verdict.{no_refusal, Verdict, or_else, in_turn}
 use Rattle.model.proofs.job.VerdictLaws.{in_turn_first}
-use Rattle.job.specs.Checks.{is_bad}
 
--- A check that does not refuse is fine.
-pub fine : (u : Verdict) {v : Verdict} {r : Bool} → u ≡ v → r ≡ is_bad u → r ≡ false → v ≡ Fine
-fine Fine e t h = sym e
-fine (Bad x) e t h = absurd (true≢false (sym t ∙ h))
+-- The answer is the same refusal.
+pub passed_on : {T : Type 0} (u : Result T Refusal) {r : Refusal} → IsErrAnd u (λ y. y ≡ r) → u ≡ Err r
+passed_on u h = let p = err_from_is_err_and u h in p.1 ∙ ap Err p.2
 
 -- A check that refuses decides, whatever comes after it.
-pub refused : (u v w : Verdict) {r : Bool} → u ≡ v → r ≡ is_bad u → r ≡ true → u ≡ or_else v w
+pub refused : (u v w : Verdict) {r : Refusal} → IsErrAnd u (λ y. y ≡ r) → Err r ≡ v → u ≡ or_else v w
 unfolding or_else
-refused Fine v w e t h = absurd (true≢false (sym h ∙ t))
-refused (Bad x) v w e t h = rw (← e)
+refused u v w h e = rw (passed_on u h, ← e)
 
 -- After a check that is fine, what comes after it decides.
-pub after : (u v w : Verdict) → v ≡ Fine → u ≡ w → u ≡ or_else v w
+pub after : (u v w : Verdict) → no_refusal ≡ v → u ≡ w → u ≡ or_else v w
 unfolding or_else
-after u v w h e = rw (h, e)
+after u v w h e = rw (← h, e)
 
 module _ (f : ℕ → Verdict) where
   -- The first check of a row that refuses decides.
-  pub refused_at : (n i : ℕ) (u : Verdict) {r : Bool} → in_turn i f ≡ Fine → u ≡ f i → r ≡ is_bad u → r ≡ true → i < n → u ≡ in_turn n f
-  refused_at n i Fine h e t b l = absurd (true≢false (sym b ∙ t))
-  refused_at n i (Bad x) h e t b l = sym (in_turn_first n i f h (sym e) l)
+  pub refused_at : (n i : ℕ) (u : Verdict) {r : Refusal} → in_turn i f ≡ no_refusal → IsErrAnd u (λ y. y ≡ r) → Err r ≡ f i → i < n → u ≡ in_turn n f
+  refused_at n i u h k e l = passed_on u k ∙ sym (in_turn_first n i f h (sym e) l)
 
   -- One check more is fine.
-  pub fine_at : (i : ℕ) (u : Verdict) {r : Bool} → in_turn i f ≡ Fine → u ≡ f i → r ≡ is_bad u → r ≡ false → in_turn (i + 1) f ≡ Fine
+  pub fine_at : (i : ℕ) → in_turn i f ≡ no_refusal → no_refusal ≡ f i → in_turn (i + 1) f ≡ no_refusal
   unfolding in_turn or_else
-  fine_at i u h e t b = rw (add-one i, in_turn, h) (fine u e t b)
+  fine_at i h e = rw (add-one i, in_turn, h) (sym e)
 
-  pub none_yet : in_turn 0 f ≡ Fine
+  pub none_yet : in_turn 0 f ≡ no_refusal
   unfolding in_turn
   none_yet = refl
 
   -- The row is fine when its last check is.
-  pub all_fine : (n i : ℕ) → in_turn i f ≡ Fine → i ≡ n → Fine ≡ in_turn n f
+  pub all_fine : (n i : ℕ) → in_turn i f ≡ no_refusal → i ≡ n → no_refusal ≡ in_turn n f
   all_fine n i h e = rw (← e, h)
+
+-- By these a loop over checks is proved, with the invariant that those passed are fine.
+pub ruleset turns = (in_turn_first, fine_at, none_yet)

@@ -1,13 +1,7 @@
--- The tests that the code makes of a job, and whether a check refuses.
-use Rattle.std.specs.Prelude.{ℕ, ◌+◌, ◌*◌, Bool, true, false, ◌&&◌, List, leb, eqb, length}
-use Rattle.model.specs.declared.Verdict.{Verdict}
-use Rattle.model.specs.declared.Verdict.TheVariants.{Fine, Bad}
+-- The tests that the code makes of a job.
+use Rattle.std.specs.Prelude.{ℕ, ◌+◌, ◌*◌, Bool, ◌&&◌, List, leb, eqb, length}
 use Rattle.model.specs.job.Layout.{fact_count, action_count, constraint_count, hint_count, pair_offset, pair_length}
 use Rattle.model.specs.job.Decoding.{counts_in_range, section_start, right_length}
-
-abbrev pub is_bad : Verdict → Bool
-is_bad Fine = false
-is_bad (Bad r) = true
 
 -- what `head_verdict` and `pair_verdict` test
 abbrev pub head_fits : List ℕ → Bool

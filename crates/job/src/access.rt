@@ -1,4 +1,8 @@
-// What stands where in a job. Each function asks only that the bytes that it reads are there.
+// What stands where in a job. Each function asks only that the bytes that it reads are there: while a job is checked, a little more of it is known
+// after each check, and a type for each of these stages would say no more than the clauses do. `Job` promises it of an accepted job. Functions of one line
+// that differ in a number have a name each, since a number at each call would say less.
+#![tactic(auto, unfolding(model::specs::job::Layout::pair_count, model::specs::job::Layout::job_of))]
+
 ghost use Rattle.std.specs.Prelude.{◌≡◌, ◌+◌, ◌*◌, ◌≤◌, ◌<◌, length};
 ghost use Rattle.model.specs.Bits.{number_at};
 ghost use Rattle.model.specs.job.Layout.{set_bytes, all_sets, action_bytes, fact_count, action_count, constraint_count, hint_count};
@@ -17,6 +21,9 @@ pub const ALL_SETS: usize = 4;
 
 // A cost has 16 bits.
 const COST: usize = 2;
+
+// Offsets and lengths have 16 bits.
+const PAIR: usize = 2;
 
 // The start and the goal stand before the actions.
 const TASK_HEAD: usize = 16;
@@ -49,40 +56,33 @@ pub fn hint_count(bytes: &[u8]) -> u8
     bytes[3]
 }
 
-// A count as an index.
-pub fn wide(x: u8) -> usize
-    ensures { (result ≡ x) × (result < 256) }
-{
-    x as usize
-}
-
 // How many sections hold a formula.
 pub fn formula_count(bytes: &[u8]) -> usize
     requires { 4 ≤ length bytes.now }
     ensures { (result ≡ constraint_count bytes.now + hint_count bytes.now) × (result < 512) }
 {
-    wide(constraint_count(bytes)) + wide(hint_count(bytes))
+    usize::from(constraint_count(bytes)) + usize::from(hint_count(bytes))
 }
 
 pub fn pair_count(bytes: &[u8]) -> usize
     requires { 4 ≤ length bytes.now }
     ensures { (result ≡ pair_count bytes.now) × (result < 513) }
 {
-    1 + wide(constraint_count(bytes)) + wide(hint_count(bytes))
+    1 + usize::from(constraint_count(bytes)) + usize::from(hint_count(bytes))
 }
 
 pub fn section_offset(bytes: &[u8], i: usize) -> usize
     requires { 8 + 4 * i ≤ length bytes.now }
     ensures { (result ≡ pair_offset bytes.now i) × (result < 65536) }
 {
-    words::get16(bytes, 4 + 4 * i) as usize
+    words::get::<PAIR>(bytes, 4 + 4 * i) as usize
 }
 
 pub fn section_length(bytes: &[u8], i: usize) -> usize
     requires { 8 + 4 * i ≤ length bytes.now }
     ensures { (result ≡ pair_length bytes.now i) × (result < 65536) }
 {
-    words::get16(bytes, 6 + 4 * i) as usize
+    words::get::<PAIR>(bytes, 6 + 4 * i) as usize
 }
 
 // How many bytes an action of so many sets has.
@@ -98,7 +98,7 @@ pub fn task_bytes(bytes: &[u8], sets: usize) -> usize
     requires { (4 ≤ length bytes.now) × (sets ≤ all_sets) }
     ensures { result ≡ task_bytes bytes.now sets }
 {
-    TASK_HEAD + action_bytes(sets) * wide(action_count(bytes))
+    TASK_HEAD + action_bytes(sets) * usize::from(action_count(bytes))
 }
 
 // Whether each action has a set of forbidden facts, which the task section's length tells.
@@ -122,7 +122,7 @@ pub fn start(bytes: &[u8]) -> u64
     requires { HeadThere bytes.now }
     ensures { result ≡ (job_of bytes.now).start }
 {
-    words::get64(bytes, section_offset(bytes, 0))
+    words::get::<SET>(bytes, section_offset(bytes, 0))
 }
 
 // The facts that are to be true at the end.
@@ -130,7 +130,7 @@ pub fn goal(bytes: &[u8]) -> u64
     requires { HeadThere bytes.now }
     ensures { result ≡ (job_of bytes.now).goal }
 {
-    words::get64(bytes, section_offset(bytes, 0) + SET)
+    words::get::<SET>(bytes, section_offset(bytes, 0) + SET)
 }
 
 // Where action i begins.
@@ -154,7 +154,7 @@ fn action_set(bytes: &[u8], i: usize, k: usize) -> u64
     requires { ActionThere bytes.now i × (k < set_count bytes.now) }
     ensures { result ≡ number_at set_bytes bytes.now (set_offset bytes.now i k) }
 {
-    words::get64(bytes, set_offset(bytes, i, k))
+    words::get::<SET>(bytes, set_offset(bytes, i, k))
 }
 
 // The facts that action i needs.
@@ -197,5 +197,5 @@ pub fn action_cost(bytes: &[u8], i: usize) -> u64
     requires { ActionThere bytes.now i }
     ensures { (result ≡ (action_at bytes.now i).cost) × (result < 65536) }
 {
-    words::get16(bytes, set_offset(bytes, i, set_count(bytes)))
+    words::get::<COST>(bytes, set_offset(bytes, i, set_count(bytes)))
 }

@@ -1,27 +1,19 @@
-// One check of a job, and whether it refuses.
+// One check of a job.
+#![tactic(auto, unfolding(model::specs::Verdict::unless))]
+
 ghost use Rattle.std.specs.Prelude.{◌≡◌};
+ghost use Rattle.model.specs.Reason.{number_of};
 ghost use Rattle.model.specs.Verdict.{unless};
-ghost use Rattle.job.specs.Checks.{is_bad};
 
-use model::{Refusal, Verdict};
+use model::{Reason, Refusal, Verdict};
 
-// Refused with a number and a place unless a test is true.
-pub fn unless(ok: bool, number: u8, place: usize) -> Verdict
-    ensures { result ≡ unless ok number place }
+// Refused with a reason and a place unless a test is true.
+pub fn unless(ok: bool, reason: Reason, place: usize) -> Verdict
+    ensures { result ≡ unless ok (number_of reason) place }
 {
     if ok {
-        Verdict::Fine
+        Ok(())
     } else {
-        Verdict::Bad(Refusal { number, place })
-    }
-}
-
-// Whether a check refuses.
-pub fn refuses(v: Verdict) -> bool
-    ensures { result ≡ is_bad v }
-{
-    match v {
-        Verdict::Fine => false,
-        Verdict::Bad(_) => true,
+        Err(Refusal::new(reason, place))
     }
 }

@@ -4,10 +4,11 @@ ghost use Rattle.model.specs.job.Layout.{pair_count, pair_offset, formula_in};
 ghost use Rattle.model.specs.job.Decoding.{formula_verdict, formulas_verdict};
 ghost use Rattle.job.specs.Laid.{Laid};
 
-use super::{access, checks};
+use super::access;
 use model::Verdict;
 
 // The formula in section i.
+#[tactic(auto, unfolding(model::specs::job::Layout::formula_in))]
 fn check_formula(bytes: &[u8], i: usize) -> Verdict
     requires { Laid bytes.now × (i < pair_count bytes.now) }
     ensures { result ≡ formula_verdict (pair_offset bytes.now i) (formula_in bytes.now i) }
@@ -20,18 +21,13 @@ fn check_formula(bytes: &[u8], i: usize) -> Verdict
 }
 
 // The formulas in turn, constraints and then hints.
+#[tactic(auto, using(crate::proofs::TurnLaws::turns), unfolding(model::specs::job::Layout::pair_count, model::specs::job::Decoding::formulas_verdict))]
 pub fn check_formulas(bytes: &[u8]) -> Verdict
     requires { Laid bytes.now }
     ensures { result ≡ formulas_verdict bytes.now }
 {
-    let n = access::formula_count(bytes);
-    let mut i = 0;
-    while i < n {
-        let verdict = check_formula(bytes, 1 + i);
-        if checks::refuses(verdict) {
-            return verdict;
-        }
-        i += 1;
+    for i in 0..access::formula_count(bytes) {
+        check_formula(bytes, 1 + i)?;
     }
-    Verdict::Fine
+    Ok(())
 }

@@ -1,10 +1,12 @@
 // Refusal 1: a head of under 4 bytes, or a count out of range.
+#![tactic(auto, unfolding(model::specs::job::Decoding::head_verdict))]
+
 ghost use Rattle.std.specs.Prelude.{◌≡◌};
 ghost use Rattle.model.specs.job.Decoding.{counts_in_range, head_verdict};
 ghost use Rattle.job.specs.Checks.{head_fits};
 
 use super::{access, checks};
-use model::Verdict;
+use model::{Reason, Verdict};
 
 // Whether a number of facts and one of actions are in their ranges.
 pub fn counts_in_range(facts: u8, actions: u8) -> bool
@@ -38,5 +40,5 @@ fn head_fits(bytes: &[u8]) -> bool
 pub fn check_head(bytes: &[u8]) -> Verdict
     ensures { result ≡ head_verdict bytes.now }
 {
-    checks::unless(head_fits(bytes), 1, 0)
+    checks::unless(head_fits(bytes), Reason::BadHead, 0)
 }

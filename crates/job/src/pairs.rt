@@ -1,4 +1,6 @@
 // Refusal 2: the pairs of offset and length, in turn, and bytes after the last section.
+#![tactic(auto, unfolding(model::specs::job::Decoding::pairs_verdict))]
+
 ghost use Rattle.std.specs.Prelude.{◌≡◌, ◌+◌, ◌*◌, ◌≤◌, ◌<◌, length};
 ghost use Rattle.model.specs.Verdict.{in_turn};
 ghost use Rattle.model.specs.job.Layout.{pair_count};
@@ -6,7 +8,7 @@ ghost use Rattle.model.specs.job.Decoding.{section_start, right_length, pair_ver
 ghost use Rattle.job.specs.Checks.{pair_fits};
 
 use super::{access, checks};
-use model::Verdict;
+use model::{Reason, Verdict};
 
 // Where section i is to begin: after the pairs, or where the section before it ends.
 fn section_start(bytes: &[u8], i: usize) -> usize
@@ -66,24 +68,19 @@ fn check_pair(bytes: &[u8], i: usize) -> Verdict
     requires { (4 ≤ length bytes.now) × (i < 513) }
     ensures { result ≡ pair_verdict bytes.now i }
 {
-    checks::unless(pair_fits(bytes, i), 2, i)
+    checks::unless(pair_fits(bytes, i), Reason::BadPair, i)
 }
 
 // The pairs in turn.
+#[tactic(auto, using(crate::proofs::TurnLaws::turns))]
 fn check_each_pair(bytes: &[u8]) -> Verdict
     requires { 4 ≤ length bytes.now }
     ensures { result ≡ in_turn (pair_count bytes.now) (pair_verdict bytes.now) }
 {
-    let n = access::pair_count(bytes);
-    let mut i = 0;
-    while i < n {
-        let verdict = check_pair(bytes, i);
-        if checks::refuses(verdict) {
-            return verdict;
-        }
-        i += 1;
+    for i in 0..access::pair_count(bytes) {
+        check_pair(bytes, i)?;
     }
-    Verdict::Fine
+    Ok(())
 }
 
 // The pairs, and then that no byte follows the last section.
@@ -91,11 +88,8 @@ pub fn check_pairs(bytes: &[u8]) -> Verdict
     requires { 4 ≤ length bytes.now }
     ensures { result ≡ pairs_verdict bytes.now }
 {
-    let verdict = check_each_pair(bytes);
-    if checks::refuses(verdict) {
-        return verdict;
-    }
+    check_each_pair(bytes)?;
     let n = access::pair_count(bytes);
     let end = section_start(bytes, n);
-    checks::unless(end == bytes.len(), 2, n - 1)
+    checks::unless(end == bytes.len(), Reason::BadPair, n - 1)
 }

@@ -1,7 +1,7 @@
 -- Laws of tests and options that the other theorems share.
+use Rattle.std.proofs.Common.{None, Some}
 use mathlib.Core.Path.{◌≡◌, refl, sym}
 use mathlib.Core.Bool.{Bool, true, false, ◌&&◌, ◌||◌, true≢false}
-use mathlib.Core.Option.{none, some}
 use mathlib.Core.Logic.{◌↔◌, ◌⊎◌, inl, inr}
 use Prim.Native.Nat.{ℕ}
 use native.Mathlib.Omega.{arith}
@@ -23,5 +23,5 @@ or_cases true b h = inl refl
 or_cases false b h = inr h
 
 -- What is none is not some.
-pub none_some : {N A : Type 0} {n : N} → none ≡ some n → A
+pub none_some : {N A : Type 0} {n : N} → None ≡ Some n → A
 none_some h = let z : ◌≡◌ {A = ℕ} 0 1 = cc in absurd (omega arith)

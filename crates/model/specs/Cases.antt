@@ -1,8 +1,7 @@
 -- The jobs marked (m) of document 01: one table, and one theorem that each comes out as it is to, by computation.
-use Rattle.std.specs.Prelude.{◌≡◌, refl, ℕ, List, [], ◌∷◌, ◌++◌, map, length}
-use Rattle.model.specs.declared.Searched.TheVariants.{Planned, Refused}
-use Rattle.model.specs.declared.Rewritten.TheVariants.{Written}
-use Rattle.model.specs.Verdict.{refusal}
+use Rattle.std.specs.Prelude.{Ok, Err, ◌≡◌, refl, ℕ, List, [], ◌∷◌, ◌++◌, map, length}
+use Rattle.model.specs.Results.{planned as plan_of}
+use Rattle.model.specs.Refusal.{refusal}
 use Rattle.model.specs.calls.Call.{Call, call}
 use Rattle.model.specs.calls.Search.{SearchEnd, ruled}
 use Rattle.model.specs.calls.WriteBack.{WriteEnd, written_back}
@@ -103,9 +102,9 @@ outcome (refused job n) = searched (ruled (by_program job) (7 ∷ 7 ∷ []) (9 �
 outcome (rewritten rule n buffer) = wrote (written_back 3 3 rule (9 ∷ 9 ∷ 9 ∷ 9 ∷ 9 ∷ 9 ∷ 9 ∷ []))
 
 unfoldable pub wanted : Case → End
-wanted (planned job c n buffer) = searched (record { result = Planned c n; table = 0 ∷ 0 ∷ []; plan = buffer })
-wanted (refused job n) = searched (record { result = Refused (refusal n 0); table = 0 ∷ 0 ∷ []; plan = 9 ∷ 9 ∷ 9 ∷ 9 ∷ [] })
-wanted (rewritten rule n buffer) = wrote (record { result = Written n; buffer = buffer })
+wanted (planned job c n buffer) = searched (record { result = Ok (plan_of c n); table = 0 ∷ 0 ∷ []; plan = buffer })
+wanted (refused job n) = searched (record { result = Err (refusal n 0); table = 0 ∷ 0 ∷ []; plan = 9 ∷ 9 ∷ 9 ∷ 9 ∷ [] })
+wanted (rewritten rule n buffer) = wrote (record { result = Ok n; buffer = buffer })
 
 pub all_as_wanted : map outcome cases ≡ map wanted cases
 unfolding outcome wanted cases

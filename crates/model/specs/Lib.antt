@@ -1,6 +1,9 @@
 -- The definitions of document 01, in its order.
 pub mod Bits
+pub mod Refusal
+pub mod Reason
 pub mod Verdict
+pub mod Results
 pub mod logic
 pub mod job
 pub mod task

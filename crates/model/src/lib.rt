@@ -1,6 +1,9 @@
 // The types and the sizes that the definitions in specs/ and the code of all crates share.
 #![tactic(auto)]
 
+use std::fmt;
+use std::marker::Model;
+
 // A formula has at most this many carried parts.
 pub const MOST_PARTS: usize = 6;
 
@@ -8,14 +11,14 @@ pub const MOST_PARTS: usize = 6;
 pub const NODE: usize = 9;
 
 // A formula with no operand and no number.
-#[derive(Clone, Copy)]
+#[derive(Clone, Copy, Debug, PartialEq, Eq)]
 pub enum Constant {
     False,
     True,
     Last,
 }
 
-#[derive(Clone, Copy)]
+#[derive(Clone, Copy, Debug, PartialEq, Eq)]
 pub enum Unary {
     Not,
     Next,
@@ -23,7 +26,7 @@ pub enum Unary {
     Always,
 }
 
-#[derive(Clone, Copy)]
+#[derive(Clone, Copy, Debug, PartialEq, Eq)]
 pub enum Binary {
     And,
     Or,
@@ -32,7 +35,7 @@ pub enum Binary {
 }
 
 // What a byte of a formula stands for; a fact's and an action's number follows in the next byte.
-#[derive(Clone, Copy)]
+#[derive(Clone, Copy, Debug, PartialEq, Eq)]
 pub enum Code {
     Leaf(Constant),
     Fact,
@@ -42,37 +45,118 @@ pub enum Code {
     Unknown,
 }
 
-// A refusal: its number in document 01's table, and its one place.
-#[derive(Clone, Copy)]
+impl From<u8> for Code {
+    ghost use Rattle.std.specs.Prelude.{◌≡◌};
+    ghost use Rattle.model.specs.logic.Formula.{code_of};
+
+    ghost from_gives = { λ byte code. code ≡ code_of byte };
+
+    fn from(byte: u8) -> Code {
+        match byte {
+            0x00 => Code::Leaf(Constant::False),
+            0x01 => Code::Leaf(Constant::True),
+            0x02 => Code::Leaf(Constant::Last),
+            0x03 => Code::Fact,
+            0x04 => Code::Action,
+            0x10 => Code::One(Unary::Not),
+            0x11 => Code::Two(Binary::And),
+            0x12 => Code::Two(Binary::Or),
+            0x20 => Code::One(Unary::Next),
+            0x21 => Code::One(Unary::Eventually),
+            0x22 => Code::One(Unary::Always),
+            0x23 => Code::Two(Binary::Until),
+            0x24 => Code::Two(Binary::Release),
+            _ => Code::Unknown,
+        }
+    }
+}
+
+// Why a call is refused, with the number that document 01's table and the cards give it.
+#[derive(Clone, Copy, Debug, PartialEq, Eq)]
+pub enum Reason {
+    BadHead = 1,
+    BadPair = 2,
+    BadTask = 3,
+    BadFormula = 4,
+    ManyParts = 5,
+    BadStep = 6,
+    NotApplicable = 7,
+    GoalMissing = 8,
+    RuleNotMet = 9,
+    TableTooSmall = 10,
+    NoPlanCut = 11,
+    NoPlan = 12,
+    BufferTooShort = 13,
+    BadNeeds = 14,
+    NoRight = 15,
+}
+
+// A refusal: why, and its one place. A clause sees its number and its place.
+#[derive(Clone, Copy, Debug)]
 pub struct Refusal {
-    pub number: u8,
-    pub place: usize,
+    reason: Reason,
+    place: usize,
+}
+
+impl Model for Refusal {
+    ghost use Rattle.std.proofs.Common.{ap};
+    ghost use Rattle.model.specs.Refusal.{refusal};
+    ghost use Rattle.model.specs.Refusal.{Refusal as Numbered};
+    ghost use Rattle.model.specs.Reason.{number_of, reason_of, reason_is};
+
+    ghost Value = { Numbered };
+
+    ghost view = { λ r. refusal (number_of r.reason) r.place };
+
+    ghost inverse = { λ r. record { reason = reason_of r.number; place = r.place } };
+
+    ghost inverse_ok = { λ r h. ap (λ x. record { reason = x; place = r.place }) (reason_is r.reason) };
+}
+
+impl Refusal {
+    ghost use Rattle.std.specs.Prelude.{◌≡◌};
+    ghost use Rattle.model.specs.Refusal.{refusal};
+    ghost use Rattle.model.specs.Reason.{number_of};
+
+    pub fn new(reason: Reason, place: usize) -> Refusal
+        ensures { result ≡ refusal (number_of reason) place }
+    {
+        Refusal { reason, place }
+    }
+
+    pub fn number(self) -> u8
+        ensures { result ≡ self.number }
+    {
+        self.reason as u8
+    }
+
+    pub fn place(self) -> usize
+        ensures { result ≡ self.place }
+    {
+        self.place
+    }
+}
+
+// As the programs print it: `refused 12 0`.
+impl fmt::Display for Refusal {
+    fn fmt<W: fmt::Write>(&self, f: &mut fmt::Formatter<W>) -> fmt::Result {
+        write!(f, "refused {} {}", self.number(), self.place)
+    }
 }
 
 // What one check of the table of refusals says.
-#[derive(Clone, Copy)]
-pub enum Verdict {
-    Fine,
-    Bad(Refusal),
+pub type Verdict = Result<(), Refusal>;
+
+// A plan's cost and number of actions.
+#[derive(Clone, Copy, Debug, PartialEq, Eq)]
+pub struct Planned {
+    pub cost: u64,
+    pub steps: usize,
 }
 
-// What a search gives: the plan's cost and number of actions, or a refusal.
-#[derive(Clone, Copy)]
-pub enum Searched {
-    Planned(u64, usize),
-    Refused(Refusal),
-}
-
-// What a read-through gives: the cost and a bit for each hint, or a refusal.
-#[derive(Clone, Copy)]
-pub enum Validated {
-    Passed(u64, u8),
-    Refused(Refusal),
-}
-
-// What writing a rule back gives: the number of bytes written, or a refusal.
-#[derive(Clone, Copy)]
-pub enum Rewritten {
-    Written(usize),
-    Refused(Refusal),
+// The cost of a step list that a read-through passed, and a bit for each hint.
+#[derive(Clone, Copy, Debug, PartialEq, Eq)]
+pub struct Passed {
+    pub cost: u64,
+    pub hints: u8,
 }

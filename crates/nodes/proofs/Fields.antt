@@ -1,9 +1,5 @@
 -- Residuals counted, and an action that is read of an accepted job.
-use mathlib.Core.Path.{◌≡◌, sym, ◌∙◌}
-use mathlib.Core.List.{List}
-use Prim.Native.Nat.{ℕ, ◌≤◌, ◌<◌}
-use lib.ListN.{length, take}
-use lib.Seq.{length-take-le}
+use Rattle.std.proofs.Common.{◌≡◌, sym, ◌∙◌, ℕ, ◌≤◌, ◌<◌, List, length, take, length-take-le}
 use Rattle.model.specs.logic.Formula.{Formula}
 use Rattle.model.specs.logic.Truth.{World}
 use Rattle.model.specs.job.Job.{Action, action_of}

@@ -1,11 +1,5 @@
 -- Laws of the arrays that hold the hints' residuals.
-use mathlib.Core.Path.{◌≡◌, sym, ap, ap₂, ◌∙◌}
-use mathlib.Core.Bool.{Bool}
-use mathlib.Core.Option.{some}
-use mathlib.Core.List.{List}
-use Prim.Native.Nat.{ℕ, ◌≤◌}
-use native.Mathlib.Omega.{arith}
-use lib.ListN.{length, take, get_or, length-take}
+use Rattle.std.proofs.Common.{◌≡◌, sym, ap, ap₂, ◌∙◌, ℕ, ◌≤◌, Bool, Some, List, length, take, get_or, arith, length-take}
 use Rattle.model.specs.job.Job.{Job}
 use Rattle.model.specs.search.Node.{progressed_all, meet_all, some_dead}
 use Rattle.model.specs.search.JobSystem.{carry_hints}
@@ -23,7 +17,7 @@ padded_carries {n} {h} l e k =
 
 -- What the hints leave after an action: the world is that of the node that it led to.
 pub carried : (j : Job) (n : ℕ) (hints : List ℕ) (m : ℕ) (node : List ℕ) (i : ℕ) {h : List ℕ}
-    → h ≡ padded (progressed_all j.hints (take n hints) (record { state = get_or node 0 0; made = some i })) → length j.hints ≡ n → n ≤ length hints
+    → h ≡ padded (progressed_all j.hints (take n hints) (record { state = get_or node 0 0; made = Some i })) → length j.hints ≡ n → n ≤ length hints
     → Carries n (carry_hints j (hints_is n hints) (node_is m node) i) h
 unfolding carry_hints hints_is node_is
 carried j n hints m node i e k l = padded_carries _ e (length-left j.hints n hints _ k l)

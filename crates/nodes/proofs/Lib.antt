@@ -1,5 +1,4 @@
 -- What the proofs of the nodes use, and the laws for their callers.
-pub mod Rows
 pub mod Fields
 pub mod ChoiceLaws
 pub mod Hints

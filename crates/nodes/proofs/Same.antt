@@ -1,11 +1,5 @@
 -- Two clean arrays are equal exactly if their nodes are: a search may compare arrays.
-use mathlib.Core.Path.{◌≡◌, refl, ap, ap₂, ◌∙◌}
-use mathlib.Core.Bool.{Bool, true, false}
-use mathlib.Core.List.{List, [], ◌∷◌, ◌++◌}
-use Prim.Native.Nat.{ℕ, ◌-◌, ◌≤◌}
-use native.Mathlib.Omega.{arith}
-use lib.Dec.{eqb}
-use lib.ListN.{length, take, drop, replicate}
+use Rattle.std.proofs.Common.{◌≡◌, refl, ap, ap₂, ◌∙◌, ℕ, ◌-◌, ◌≤◌, Bool, true, false, List, [], ◌∷◌, ◌++◌, eqb, length, take, drop, replicate, arith}
 use Rattle.model.specs.search.Node.{same_numbers, same_node}
 use Rattle.model.proofs.job.NodeLaws.{numbers_same}
 use Rattle.progression.specs.Padded.{padded}

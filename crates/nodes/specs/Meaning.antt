@@ -1,6 +1,5 @@
 -- What the arrays of the code stand for in the model, and what the functions promise of them.
-use Rattle.std.specs.Prelude.{◌≡◌, ℕ, zero, suc, ◌<◌, true, false, List, [], ◌∷◌, length, take, drop, get_or}
-use Rattle.std.proofs.Math.Option.{Option, none, some}
+use Rattle.std.specs.Prelude.{◌≡◌, ℕ, zero, suc, ◌<◌, true, List, [], ◌∷◌, length, take, drop, get_or, Option, None, Some}
 use Rattle.model.specs.Bits.{bit}
 use Rattle.model.specs.job.Job.{Action, Job, action_of}
 use Rattle.model.specs.task.State.{applicable}
@@ -9,7 +8,6 @@ use Rattle.model.specs.search.JobSystem.{alive}
 use Rattle.task.specs.declared.Action as code
 use Rattle.task.specs.Meaning.{action_is}
 use Rattle.progression.specs.Padded.{padded}
-use Rattle.nodes.specs.declared.Reached.{Reached}
 
 -- the node of an array, where there are n constraints
 unfoldable pub node_is : ℕ → List ℕ → Node
@@ -28,9 +26,10 @@ abbrev pub CleanHints : ℕ → List ℕ → Type 0
 CleanHints n hints = hints ≡ padded (take n hints)
 
 -- where an action leads, if anywhere
-unfoldable pub reached_is : ℕ → Reached → Option Node
+unfoldable pub reached_is : ℕ → Option (List ℕ) → Option Node
 unfolding node_is
-reached_is n r = elim r.alive [ true ↦ some (node_is n r.node) | false ↦ none ]
+reached_is n (Some node) = Some (node_is n node)
+reached_is n None = None
 
 -- n actions of a job from action a on; none does anything after the last
 unfoldable pub actions_from : Job → ℕ → ℕ → List Action
@@ -58,14 +57,14 @@ pub record Costs (j : Job) (i r : ℕ) : Type 0 where
   pub cheap : r < 65536
 
 -- A state and residuals were put together.
-pub record Made (n facts : ℕ) (rs : List ℕ) (r : Reached) : Type 0 where
+pub record Made (n facts : ℕ) (rs : List ℕ) (r : Option (List ℕ)) : Type 0 where
   pub lives : reached_is n r ≡ alive facts (take n rs)
-  pub holds : r.node ≡ facts ∷ rs
+  pub holds : (node : List ℕ) → r ≡ Some node → node ≡ facts ∷ rs
 
 -- The node that is reached, if any.
-pub record Leads (n : ℕ) (to : Option Node) (r : Reached) : Type 0 where
+pub record Leads (n : ℕ) (to : Option Node) (r : Option (List ℕ)) : Type 0 where
   pub leads : reached_is n r ≡ to
-  pub clean : Clean n r.node
+  pub clean : (node : List ℕ) → r ≡ Some node → Clean n node
 
 -- The residuals that the hints leave.
 pub record Carries (n : ℕ) (to r : List ℕ) : Type 0 where

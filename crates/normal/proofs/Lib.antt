@@ -1,6 +1,6 @@
--- What the proofs of the writers use.
+-- What the proofs of the writer use.
 pub mod Texts
-pub mod Passing
+pub mod Nodes
 pub mod Storing
 pub mod Verdicts
 pub mod WritingBack

@@ -1,13 +1,7 @@
 -- The text of a node, its bytes in normal form, is its heading and then its operands' texts. b is the sign: true where the formula is written,
 -- and false where its negation is.
-use mathlib.Core.Path.{◌≡◌, refl}
-use mathlib.Core.Bool.{Bool, true, false}
-use mathlib.Core.List.{List, [], ◌++◌, append-nil}
-use Prim.Native.Nat.{ℕ, ◌+◌, ◌*◌, ◌<◌, ◌≤◌}
-use native.Mathlib.Omega.{arith}
-use lib.ListN.{length, get_or, length-append}
-use lib.Dec.{ltb}
-use borrow.Author.Tests.{ltb-true}
+use Rattle.std.proofs.Common.{◌≡◌, refl, Bool, true, false, List, [], ◌++◌, append-nil, ℕ, ◌+◌, ◌*◌, ◌<◌, ◌≤◌, arith, length, get_or, length-append, ltb}
+use Rattle.std.proofs.Common.{ltb-true}
 use Rattle.model.specs.declared.Constant.{Constant}
 use Rattle.model.specs.declared.Constant.TheVariants.{False, True, Last}
 use Rattle.model.specs.declared.Unary.{Unary}

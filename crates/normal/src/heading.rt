@@ -5,8 +5,8 @@ ghost use Rattle.normal.specs.Heading.{bytes_in, head0, head1, head2, head_numbe
 
 use model::{Binary, Code, Constant, Unary};
 
-// The bytes of a heading.
-#[derive(Clone, Copy)]
+// The bytes of a heading. Two of the three bytes may be read from the rule, so no slice of a constant holds them.
+#[derive(Clone, Copy, Debug, PartialEq, Eq)]
 pub enum Head {
     Nothing,
     Single(u8),
@@ -38,87 +38,38 @@ fn put(out: &mut [u8], to: usize, h: Head) -> usize
     }
 }
 
-// The number of bytes.
-fn count(h: Head) -> usize
-    ensures { (result ≡ length (bytes_in h)) × (result ≤ 3) }
-{
-    match h {
-        Head::Nothing => 0,
-        Head::Single(_) => 1,
-        Head::Pair(_, _) => 2,
-        Head::Triple(_, _, _) => 3,
-    }
-}
-
+// Operators of none, one and two operands are three types, so each has its function.
 fn head_leaf(c: Constant, plain: bool) -> Head
     ensures { result ≡ head0 c plain }
 {
-    match c {
-        Constant::False => if plain {
-            Head::Single(0x00)
-        } else {
-            Head::Single(0x01)
-        },
-        Constant::True => if plain {
-            Head::Single(0x01)
-        } else {
-            Head::Single(0x00)
-        },
-        Constant::Last => if plain {
-            Head::Single(0x02)
-        } else {
-            Head::Pair(0x10, 0x02)
-        },
+    match (c, plain) {
+        (Constant::False, true) | (Constant::True, false) => Head::Single(0x00),
+        (Constant::False, false) | (Constant::True, true) => Head::Single(0x01),
+        (Constant::Last, true) => Head::Single(0x02),
+        (Constant::Last, false) => Head::Pair(0x10, 0x02),
     }
 }
 
 fn head_one(o: Unary, plain: bool) -> Head
     ensures { result ≡ head1 o plain }
 {
-    match o {
-        Unary::Not => Head::Nothing,
-        Unary::Next => if plain {
-            Head::Single(0x20)
-        } else {
-            Head::Triple(0x12, 0x02, 0x20)
-        },
-        Unary::Eventually => if plain {
-            Head::Single(0x21)
-        } else {
-            Head::Single(0x22)
-        },
-        Unary::Always => if plain {
-            Head::Single(0x22)
-        } else {
-            Head::Single(0x21)
-        },
+    match (o, plain) {
+        (Unary::Not, _) => Head::Nothing,
+        (Unary::Next, true) => Head::Single(0x20),
+        (Unary::Next, false) => Head::Triple(0x12, 0x02, 0x20),
+        (Unary::Eventually, true) | (Unary::Always, false) => Head::Single(0x21),
+        (Unary::Eventually, false) | (Unary::Always, true) => Head::Single(0x22),
     }
 }
 
 fn head_two(o: Binary, plain: bool) -> Head
     ensures { result ≡ head2 o plain }
 {
-    match o {
-        Binary::And => if plain {
-            Head::Single(0x11)
-        } else {
-            Head::Single(0x12)
-        },
-        Binary::Or => if plain {
-            Head::Single(0x12)
-        } else {
-            Head::Single(0x11)
-        },
-        Binary::Until => if plain {
-            Head::Single(0x23)
-        } else {
-            Head::Single(0x24)
-        },
-        Binary::Release => if plain {
-            Head::Single(0x24)
-        } else {
-            Head::Single(0x23)
-        },
+    match (o, plain) {
+        (Binary::And, true) | (Binary::Or, false) => Head::Single(0x11),
+        (Binary::And, false) | (Binary::Or, true) => Head::Single(0x12),
+        (Binary::Until, true) | (Binary::Release, false) => Head::Single(0x23),
+        (Binary::Until, false) | (Binary::Release, true) => Head::Single(0x24),
     }
 }
 
@@ -150,12 +101,7 @@ fn head_of(code: Code, n: u8, plain: bool) -> Head
 pub fn sign_of(o: Unary, plain: bool) -> bool
     ensures { result ≡ sign o plain }
 {
-    match o {
-        Unary::Not => if plain { false } else { true },
-        Unary::Next => plain,
-        Unary::Eventually => plain,
-        Unary::Always => plain,
-    }
+    if o == Unary::Not { !plain } else { plain }
 }
 
 // Writes the heading of a node.
@@ -164,12 +110,4 @@ pub fn put_head(out: &mut [u8], to: usize, code: Code, n: u8, plain: bool) -> us
     ensures { (result ≡ to + length (heading code n plain)) × (out.new ≡ sets out.old to (heading code n plain)) }
 {
     put(out, to, head_of(code, n, plain))
-}
-
-// Goes past the heading of a node without writing.
-pub fn pass_head(to: usize, code: Code, n: u8, plain: bool) -> usize
-    requires { to + length (heading code n plain) ≤ 384 }
-    ensures { result ≡ to + length (heading code n plain) }
-{
-    to + count(head_of(code, n, plain))
 }

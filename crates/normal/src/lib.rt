@@ -7,64 +7,41 @@ pub mod heading;
 ghost use Rattle.std.specs.Prelude.{◌≡◌, true, false, length, get_or};
 ghost use Rattle.model.specs.logic.Reading.{parsed};
 ghost use Rattle.model.specs.calls.WriteBack.{write_end, rule_verdict, written_back};
-ghost use Rattle.normal.specs.Writing.{Room, ends_of, Stored};
+ghost use Rattle.normal.specs.Writing.{Room, Stored};
 
-use model::{Code, Refusal, Rewritten, Verdict};
+use model::{Code, Reason, Refusal, Verdict};
 
 // The position after what was read, and the position after what is written of it.
-#[derive(Clone, Copy)]
+#[derive(Clone, Copy, Debug, PartialEq, Eq)]
 pub struct Ends {
     pub next: usize,
     pub to: usize,
 }
 
+// A rule has at most 128 bytes, and its normal form at most three times as many.
+const MOST_BYTES: usize = 384;
+
 // The byte at a position, or 0 past the end.
 fn byte_at(s: &[u8], at: usize) -> u8
     ensures { result ≡ get_or s.now at 0 }
 {
-    if at < s.len() { s[at] } else { 0 }
+    s.get(at).copied().unwrap_or(0)
 }
 
-// Where the formula at a position ends, and where its normal form would end: as the two writers below, without writing.
-// A rule has at most 128 bytes, and its normal form at most three times as many. Here and in the writers a formula was read at the
-// position, so that its first byte is there and the last arm is not reached.
-fn measure(s: &[u8], at: usize, to: usize, plain: bool) -> Ends
-    requires { Room (parsed 64 64 s.now at) plain to 384 }
-    ensures { result ≡ ends_of (parsed 64 64 s.now at) plain to }
-{
-    let byte = s[at];
-    let code = formula::code_of(byte);
-    let b = at + 1;
-    let k = heading::pass_head(to, code, byte_at(s, b), plain);
-    match code {
-        Code::Leaf(_) => Ends { next: b, to: k },
-        Code::Fact => Ends { next: b + 1, to: k },
-        Code::Action => Ends { next: b + 1, to: k },
-        Code::One(o) => measure(s, b, k, heading::sign_of(o, plain)),
-        Code::Two(_) => {
-            let p = measure(s, b, k, plain);
-            let m = p.next;
-            let j = p.to;
-            measure(s, m, j, plain)
-        }
-        Code::Unknown => Ends { next: b, to: k },
-    }
-}
-
-// Writes the normal form of the formula at a position.
+// Writes the normal form of the formula at a position. Here and in `write_negated` a formula was read there, so that its first byte is
+// there and `Unknown` is not met. The two differ in the sign alone; that they are two which call each other is asked for (docs/DECISIONS.md).
 #[cycle(write_write_negated)]
+#[tactic(auto, using(crate::proofs::Nodes::inside))]
 pub fn write(s: &[u8], at: usize, out: &mut [u8], to: usize) -> Ends
     requires { Room (parsed 64 64 s.now at) true to (length out.old) }
     ensures { Stored (parsed 64 64 s.now at) true to out.old result out.new }
 {
-    let byte = s[at];
-    let code = formula::code_of(byte);
+    let code = Code::from(s[at]);
     let b = at + 1;
     let k = heading::put_head(out, to, code, byte_at(s, b), true);
     match code {
-        Code::Leaf(_) => Ends { next: b, to: k },
-        Code::Fact => Ends { next: b + 1, to: k },
-        Code::Action => Ends { next: b + 1, to: k },
+        Code::Leaf(_) | Code::Unknown => Ends { next: b, to: k },
+        Code::Fact | Code::Action => Ends { next: b + 1, to: k },
         Code::One(o) => if heading::sign_of(o, true) {
             write(s, b, out, k)
         } else {
@@ -72,28 +49,24 @@ pub fn write(s: &[u8], at: usize, out: &mut [u8], to: usize) -> Ends
         },
         Code::Two(_) => {
             let p = write(s, b, out, k);
-            let m = p.next;
-            let j = p.to;
-            write(s, m, out, j)
+            write(s, p.next, out, p.to)
         }
-        Code::Unknown => Ends { next: b, to: k },
     }
 }
 
 // Writes the normal form of the negation of the formula at a position.
 #[cycle(write_write_negated)]
+#[tactic(auto, using(crate::proofs::Nodes::inside))]
 pub fn write_negated(s: &[u8], at: usize, out: &mut [u8], to: usize) -> Ends
     requires { Room (parsed 64 64 s.now at) false to (length out.old) }
     ensures { Stored (parsed 64 64 s.now at) false to out.old result out.new }
 {
-    let byte = s[at];
-    let code = formula::code_of(byte);
+    let code = Code::from(s[at]);
     let b = at + 1;
     let k = heading::put_head(out, to, code, byte_at(s, b), false);
     match code {
-        Code::Leaf(_) => Ends { next: b, to: k },
-        Code::Fact => Ends { next: b + 1, to: k },
-        Code::Action => Ends { next: b + 1, to: k },
+        Code::Leaf(_) | Code::Unknown => Ends { next: b, to: k },
+        Code::Fact | Code::Action => Ends { next: b + 1, to: k },
         Code::One(o) => if heading::sign_of(o, false) {
             write(s, b, out, k)
         } else {
@@ -101,49 +74,36 @@ pub fn write_negated(s: &[u8], at: usize, out: &mut [u8], to: usize) -> Ends
         },
         Code::Two(_) => {
             let p = write_negated(s, b, out, k);
-            let m = p.next;
-            let j = p.to;
-            write_negated(s, m, out, j)
+            write_negated(s, p.next, out, p.to)
         }
-        Code::Unknown => Ends { next: b, to: k },
     }
 }
 
 // Refusals 1 and 2, and then 4 and 5 counted from the rule's start.
-fn rule_verdict(facts: u8, actions: u8, rule: &[u8]) -> Verdict
+#[tactic(auto, using(std::proofs::lemmas::Bool::Decides::nat_tests), unfolding(model::specs::calls::WriteBack::rule_verdict))]
+fn check_rule(facts: u8, actions: u8, rule: &[u8]) -> Verdict
     ensures { result ≡ rule_verdict facts actions rule.now }
 {
     if facts < 1 || 64 < facts || 64 < actions {
-        return Verdict::Bad(Refusal {
-            number: 1,
-            place: 0,
-        });
+        return Err(Refusal::new(Reason::BadHead, 0));
     }
     if rule.len() < 1 || 128 < rule.len() {
-        return Verdict::Bad(Refusal {
-            number: 2,
-            place: 0,
-        });
+        return Err(Refusal::new(Reason::BadPair, 0));
     }
     formula::check(rule, 0, facts, actions)
 }
 
-// Writes a rule back into a buffer. The length is known before a byte is written, so that the buffer is untouched if it is too short.
-pub fn write_back(facts: u8, actions: u8, rule: &[u8], out: &mut [u8]) -> Rewritten
+// Writes a rule back into a buffer, and gives how many bytes it has. They are written aside first, so that the buffer is untouched if it is
+// too short.
+pub fn write_back(facts: u8, actions: u8, rule: &[u8], out: &mut [u8]) -> Result<usize, Refusal>
     ensures { write_end result out.new ≡ written_back facts actions rule.now out.old }
 {
-    match rule_verdict(facts, actions, rule) {
-        Verdict::Bad(r) => Rewritten::Refused(r),
-        Verdict::Fine => {
-            let needed = measure(rule, 0, 0, true).to;
-            if out.len() < needed {
-                return Rewritten::Refused(Refusal {
-                    number: 13,
-                    place: needed,
-                });
-            }
-            write(rule, 0, out, 0);
-            Rewritten::Written(needed)
-        }
+    check_rule(facts, actions, rule)?;
+    let mut text = [0; MOST_BYTES];
+    let needed = write(rule, 0, &mut text, 0).to;
+    if out.len() < needed {
+        return Err(Refusal::new(Reason::BufferTooShort, needed));
     }
+    out[..needed].copy_from_slice(&text[..needed]);
+    Ok(needed)
 }

@@ -1,33 +1,11 @@
 -- Laws of paths: how long they are, how two of them compare, and how one is written.
-use mathlib.Core.Path.{◌≡◌, refl, sym, ap, ◌∙◌}
-use mathlib.Core.Logic.{◌⊎◌, inl, inr}
-use mathlib.Core.Bool.{true, true≢false}
-use mathlib.Core.List.{List, [], ◌∷◌, ◌++◌, append_assoc}
-use Prim.Native.Nat.{ℕ, zero, suc, ◌<◌}
-use native.Mathlib.Omega.{arith}
-use lib.ListN.{length, drop, set, length-append}
-use lib.Seq.{drop-cons, get_or-set_same, drop-set-lt, lt-length-set}
-use lib.Dec.{ltb}
-use borrow.Author.Tests.{ltb-true, lt-ltb}
+use Rattle.std.proofs.Common.{◌≢◌, ◌≡◌, refl, sym, ap, ◌∙◌, ◌⊎◌, inl, inr, true, true≢false, List, [], ◌∷◌, ◌++◌, append_assoc, ℕ, zero, suc, ◌<◌, arith}
+use Rattle.std.proofs.Common.{length, drop, set, length-append, drop-cons, get_or-set_same, drop-set-lt, lt-length-set, ltb, ltb-true, lt-ltb}
 use Rattle.model.specs.exploration.Key.{earlier}
 use Rattle.model.proofs.exploration.KeyLaws.{earlier_irrefl, earlier_snoc}
 use Rattle.table.specs.declared.Slot.{Slot}
-use Rattle.table.specs.Slots.{slot_at}
-use Rattle.table.proofs.LookupLaws.{first_at}
-use Rattle.paths.specs.Chain.{held, parent_at, action_at, steps_at, slot_path, order, order_by, Chained, Level}
+use Rattle.paths.specs.Chain.{parent_at, action_at, steps_at, slot_path, order, order_by, Chained, Level}
 use Rattle.model.proofs.Tests.{same_truth}
-
--- ---- the parts of a held slot are those in the table
-
-module _ (t : List ℕ) (n i : ℕ) (h : i < n) where
-  pub held_parent : (slot_at t i).parent ≡ parent_at (held t n) i
-  held_parent = ap (λ (s : Slot). s.parent) (sym (first_at t n i h))
-
-  pub held_action : (slot_at t i).action ≡ action_at (held t n) i
-  held_action = ap (λ (s : Slot). s.action) (sym (first_at t n i h))
-
-  pub held_steps : (slot_at t i).steps ≡ steps_at (held t n) i
-  held_steps = ap (λ (s : Slot). s.steps) (sym (first_at t n i h))
 
 -- ---- one path
 
@@ -68,53 +46,63 @@ unfolding slot_path
 order_last ss i j e = ap (λ (k : ℕ). earlier (slot_path ss k i) (slot_path ss k j)) e
 
 -- The slots p and q are compared in place of i and j, and have fewer steps.
-abbrev pub Instead : List Slot → ℕ → ℕ → ℕ → ℕ → ℕ → Type 0
-Instead ss n i j p q = Level ss n p q × (order ss i j ≡ order ss p q) × (steps_at ss p < steps_at ss i)
+pub record Instead (ss : List Slot) (i j p q : ℕ) : Type 0 where
+  pub level : Level ss p q
+  pub same : order ss i j ≡ order ss p q
+  pub nearer : steps_at ss p < steps_at ss i
 
-module _ (ss : List Slot) (n : ℕ) (ch : Chained ss) (l : length ss ≡ n) where
+module _ (ss : List Slot) (ch : Chained ss) (i j : ℕ) (v : Level ss i j) where
   -- Being different, not both are the first slot of all: they have parents, which are one step nearer.
-  parents : (i j : ℕ) → Level ss n i j
-      → (steps_at ss i ≡ suc (steps_at ss (parent_at ss i))) × (steps_at ss j ≡ suc (steps_at ss (parent_at ss j))) × (parent_at ss i < n) × (parent_at ss j < n)
+  parents : (steps_at ss i ≡ suc (steps_at ss (parent_at ss i))) × (steps_at ss j ≡ suc (steps_at ss (parent_at ss j))) × (parent_at ss i < length ss)
+      × (parent_at ss j < length ss)
   unfolding slot_path
-  parents i j v = go (steps_at ss i) refl
+  parents = go (steps_at ss i) refl
     where
       go : (k : ℕ) → steps_at ss i ≡ k
-          → (steps_at ss i ≡ suc (steps_at ss (parent_at ss i))) × (steps_at ss j ≡ suc (steps_at ss (parent_at ss j))) × (parent_at ss i < n) × (parent_at ss j < n)
-      go zero e = absurd (v.differ (ch.distinct i j 0 e (sym v.level ∙ e) refl (omega arith) (omega arith)))
+          → (steps_at ss i ≡ suc (steps_at ss (parent_at ss i))) × (steps_at ss j ≡ suc (steps_at ss (parent_at ss j))) × (parent_at ss i < length ss)
+          × (parent_at ss j < length ss)
+      go zero e = absurd (v.differ (ch.distinct i j 0 e (sym v.level ∙ e) refl v.first v.second))
       go (suc m) e =
-          let a = ch.inside i m e (omega arith) in
-          let b = ch.inside j m (sym v.level ∙ e) (omega arith) in
-          (e ∙ ap suc (sym a.1), sym v.level ∙ e ∙ ap suc (sym b.1), omega arith, omega arith)
+          let a = ch.inside i m e v.first in
+          let b = ch.inside j m (sym v.level ∙ e) v.second in
+          (e ∙ ap suc (sym a.1), sym v.level ∙ e ∙ ap suc (sym b.1), a.0, b.0)
 
   -- From two such slots and on, their own order decides.
-  pub order_other : (i j a b : ℕ) → Level ss n i j → order ss i j ≡ order_by ss i a j b
-  order_other i j a b v =
+  pub order_other : (a b : ℕ) → order ss i j ≡ order_by ss i a j b
+  order_other a b =
       let k = steps_at ss i in
       sym
       (last_other (slot_path ss k i) (slot_path ss k j) a b (length-path ss k i ∙ sym (length-path ss k j))
-      (λ e. v.differ (ch.distinct i j k refl (sym v.level) e (omega arith) (omega arith))))
+      (λ e. v.differ (ch.distinct i j k refl (sym v.level) e v.first v.second)))
 
   -- If two slots have one parent, their actions decide.
-  pub order_action : (i j a b p q : ℕ) → a ≡ action_at ss i → b ≡ action_at ss j → p ≡ parent_at ss i → q ≡ parent_at ss j → p ≡ q → Level ss n i j → ltb a b ≡ order ss i j
-  order_action i j a b p q ea eb ep eq d v =
+  pub order_action : (a b p q : ℕ) → a ≡ action_at ss i → b ≡ action_at ss j → p ≡ parent_at ss i → q ≡ parent_at ss j → p ≡ q → ltb a b ≡ order ss i j
+  order_action a b p q ea eb ep eq d =
       rw (ea, eb)
-      (order_same ss (parent_at ss i) (parent_at ss j) (action_at ss i) (action_at ss j) (sym ep ∙ d ∙ eq) ∙ sym (order_last ss i j (parents i j v).0))
+      (order_same ss (parent_at ss i) (parent_at ss j) (action_at ss i) (action_at ss j) (sym ep ∙ d ∙ eq) ∙ sym (order_last ss i j parents.0))
 
-  -- If two slots have different parents, these decide.
-  pub order_up : (i j p q : ℕ) → p ≡ parent_at ss i → q ≡ parent_at ss j → (p ≡ q → ⊥) → Level ss n i j → Instead ss n i j p q
-  order_up i j p q ep eq d v =
-      let s = parents i j v in
-      let u : Level ss n (parent_at ss i) (parent_at ss j) = record { first = s.2; second = s.3; differ = λ e. d (ep ∙ e ∙ sym eq); level = omega (arith, s.0, s.1, v.level) } in
-      rw (ep, eq)
-      (u, order_last ss i j s.0 ∙ sym (order_other (parent_at ss i) (parent_at ss j) (action_at ss i) (action_at ss j) u), omega (arith, s.0))
+-- If two slots have different parents, these decide.
+pub order_up : (ss : List Slot) → Chained ss → (i j p q : ℕ) → p ≡ parent_at ss i → q ≡ parent_at ss j → p ≢ q → Level ss i j → Instead ss i j p q
+order_up ss ch i j p q ep eq d v =
+    let s = parents ss ch i j v in
+    let u : Level ss (parent_at ss i) (parent_at ss j) =
+    record { first = s.2; second = s.3; differ = λ e. d (ep ∙ e ∙ sym eq); level = omega (arith, s.0, s.1, v.level) } in
+    rw (ep, eq)
+    (record {
+      level = u;
+      same = order_last ss i j s.0 ∙ sym (order_other ss ch (parent_at ss i) (parent_at ss j) u (action_at ss i) (action_at ss j));
+      nearer = omega (arith, s.0);
+    })
 
 -- ---- a path written from its end
 
 -- Storing the last action leaves one action less to write before what stands after it.
-pub write_on : (ss : List Slot) (plan : List ℕ) (i k m a p : ℕ) → k ≡ suc m → a ≡ action_at ss i → p ≡ parent_at ss i → m < length plan → slot_path ss k i ++ drop k plan ≡ slot_path ss m p ++ drop m (set plan m a)
+pub write_on : (ss : List Slot) (plan : List ℕ) (i k m a p : ℕ) → k ≡ suc m → a ≡ action_at ss i → p ≡ parent_at ss i → m < length plan
+    → slot_path ss k i ++ drop k plan ≡ slot_path ss m p ++ drop m (set plan m a)
 unfolding slot_path
 write_on ss plan i k m a p d ea ep h =
-    rw (d, ← ea, ← ep, append_assoc, drop-cons (set plan m a) m 0 (lt-length-set plan m a h), get_or-set_same plan m a 0 h, drop-set-lt (suc m) plan m a (omega arith))
+    rw (d, ← ea, ← ep, append_assoc, drop-cons (set plan m a) m 0 (lt-length-set plan m a h), get_or-set_same plan m a 0 h)
+    (rw (drop-set-lt (suc m) plan m a (omega arith)))
 
 -- When none is left, the plan is written.
 pub write_end : (ss : List Slot) (plan : List ℕ) (i k : ℕ) → k ≡ 0 → slot_path ss k i ++ drop k plan ≡ plan

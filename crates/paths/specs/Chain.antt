@@ -1,12 +1,8 @@
 -- The paths that slots stand for, followed from parent to parent, and what is asked of slots whose paths are followed.
-use Rattle.std.specs.Prelude.{◌≡◌, Bool, ◌≢◌, List, [], ◌∷◌, ◌++◌, ℕ, zero, suc, ◌<◌, length, get_or, take}
+use Rattle.std.specs.Prelude.{◌≡◌, Bool, ◌≢◌, List, [], ◌∷◌, ◌++◌, ℕ, zero, suc, ◌<◌, length, get_or}
 use Rattle.model.specs.exploration.Key.{earlier}
 use Rattle.table.specs.declared.Slot.{Slot}
-use Rattle.table.specs.Slots.{slots, no_slot}
-
--- the first n slots of a table
-abbrev pub held : List ℕ → ℕ → List Slot
-held t n = take n (slots t)
+use Rattle.table.specs.Slots.{no_slot}
 
 -- the parts of slot i that a path is followed by
 abbrev pub parent_at : List Slot → ℕ → ℕ
@@ -28,10 +24,10 @@ pub record Chained (ss : List Slot) : Type 0 where
   pub inside : (i m : ℕ) → steps_at ss i ≡ suc m → i < length ss → (parent_at ss i < length ss) × (steps_at ss (parent_at ss i) ≡ m)
   pub distinct : (i j m : ℕ) → steps_at ss i ≡ m → steps_at ss j ≡ m → slot_path ss m i ≡ slot_path ss m j → i < length ss → j < length ss → i ≡ j
 
--- Two different slots below n with equally many steps, so that their paths can be compared.
-pub record Level (ss : List Slot) (n i j : ℕ) : Type 0 where
-  pub first : i < n
-  pub second : j < n
+-- Two different slots with equally many steps, so that their paths can be compared.
+pub record Level (ss : List Slot) (i j : ℕ) : Type 0 where
+  pub first : i < length ss
+  pub second : j < length ss
   pub differ : i ≢ j
   pub level : steps_at ss i ≡ steps_at ss j
 

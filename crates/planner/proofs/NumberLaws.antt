@@ -1,23 +1,10 @@
 -- The numbers of each answer, and counts as bytes.
-use mathlib.Core.Path.{◌≡◌, refl, sym, ap, ap₂, ◌∙◌}
-use Prim.Native.Nat.{ℕ, ◌<◌}
-use native.Mathlib.Omega.{arith}
-use native.Mathlib.Decide.{dec_lt}
-use mathlib.Core.Bool.{Bool}
-use mathlib.Core.Logic.{◌⊎◌, inl, inr}
-use mathlib.Core.List.{List, [], ◌∷◌}
-use lib.Dec.{leb}
-use lib.ListN.{get_or}
+use Rattle.std.proofs.Common.{◌≡◌, refl, sym, ap, ap₂, ◌∙◌, ℕ, ◌<◌, arith, Bool, leb, ◌⊎◌, inl, inr, List, [], ◌∷◌, get_or, Ok, Err}
+use Rattle.std.proofs.Math.Decide.{dec_lt}
 use borrow.Author.Tests.{le-leb, lt-leb}
-use Rattle.model.specs.declared.Refusal.{Refusal}
-use Rattle.model.specs.declared.Verdict.TheVariants.{Bad}
-use Rattle.model.specs.declared.Searched.{Searched}
-use Rattle.model.specs.declared.Searched.TheVariants.{Planned, Refused as NotPlanned}
-use Rattle.model.specs.declared.Validated.{Validated}
-use Rattle.model.specs.declared.Validated.TheVariants.{Passed, Refused}
-use Rattle.model.specs.declared.Rewritten.{Rewritten}
-use Rattle.model.specs.declared.Rewritten.TheVariants.{Written, Refused as NotWritten}
-use Rattle.model.specs.Verdict.{refusal}
+use Rattle.model.specs.declared.Passed.{Passed}
+use Rattle.model.specs.Refusal.{Refusal, refusal}
+use Rattle.model.specs.Results.{Searched, Validated, Rewritten}
 use Rattle.model.specs.logic.Formula.{choose}
 use Rattle.model.specs.job.Job.{Job}
 use Rattle.model.specs.calls.Call.{Call}
@@ -29,8 +16,8 @@ use Rattle.normal.proofs.Verdicts.{counts_wrong}
 -- The numbers of a search, one by one.
 one_by_one : (u : Searched) → get_or (search_numbers u) 0 0 ∷ get_or (search_numbers u) 1 0 ∷ get_or (search_numbers u) 2 0 ∷ [] ≡ search_numbers u
 unfolding search_numbers refusal_numbers
-one_by_one (Planned c n) = refl
-one_by_one (NotPlanned r) = refl
+one_by_one (Ok p) = refl
+one_by_one (Err r) = refl
 
 -- The numbers of a search are handed on.
 pub answers : (full : Job → ℕ → Bool) (call : Call) (table plan : List ℕ) {table' plan' : List ℕ} {u : Searched} (told : List ℕ)
@@ -40,14 +27,14 @@ answers full call table plan {u = u} told g e =
     record { result = u; ends = g; said = ap (λ (xs : List ℕ). get_or xs 0 0 ∷ get_or xs 1 0 ∷ get_or xs 2 0 ∷ []) e ∙ one_by_one u }
 
 -- a list that passed
-pub passed : (u v : Validated) (cost bits b : ℕ) → u ≡ v → u ≡ Passed cost bits → b ≡ bits → 0 ∷ cost ∷ b ∷ [] ≡ validate_numbers v
+pub passed : (u v : Validated) (p : Passed) (b : ℕ) → u ≡ v → u ≡ Ok p → b ≡ p.hints → 0 ∷ p.cost ∷ b ∷ [] ≡ validate_numbers v
 unfolding validate_numbers
-passed u v cost bits b e p q = ap (λ (x : ℕ). 0 ∷ cost ∷ x ∷ []) q ∙ ap validate_numbers (sym p ∙ e)
+passed u v p b e d q = ap (λ (x : ℕ). 0 ∷ p.cost ∷ x ∷ []) q ∙ ap validate_numbers (sym d ∙ e)
 
 -- a list that was refused
-pub refused : (u v : Validated) (r : Refusal) (n : ℕ) → u ≡ v → u ≡ Refused r → n ≡ r.number → n ∷ r.place ∷ 0 ∷ [] ≡ validate_numbers v
-unfolding validate_numbers refusal_numbers
-refused u v r n e p q = ap (λ (x : ℕ). x ∷ r.place ∷ 0 ∷ []) q ∙ ap validate_numbers (sym p ∙ e)
+pub refused : (u v : Validated) (r : Refusal) (numbers : List ℕ) → u ≡ v → u ≡ Err r → numbers ≡ refusal_numbers r → numbers ≡ validate_numbers v
+unfolding validate_numbers
+refused u v r numbers e p q = q ∙ ap validate_numbers (sym p ∙ e)
 
 -- ---- counts as bytes
 
@@ -65,7 +52,7 @@ refused_alike : (v a x y : ℕ) (rule buffer : List ℕ) → (64 < v) ⊎ (64 < 
 unfolding written_back
 refused_alike v a x y rule buffer h g = rw (bad v a h, written_back, bad x y g)
   where
-    bad : (m n : ℕ) → (64 < m) ⊎ (64 < n) → rule_verdict m n rule ≡ Bad (refusal 1 0)
+    bad : (m n : ℕ) → (64 < m) ⊎ (64 < n) → rule_verdict m n rule ≡ Err (refusal 1 0)
     bad m n h = sym (counts_wrong m n rule (inr h))
 
 -- Bytes that stand for counts are written back as these.
@@ -81,13 +68,11 @@ capped_same v a rule buffer = go (cap v (dec_lt 64 v)) (cap a (dec_lt 64 a))
 -- ---- a rule written back
 
 module _ {e : WriteEnd} {u : Rewritten} {buffer' : List ℕ} (is : write_end u buffer' ≡ e) where
-  pub written : (n : ℕ) → u ≡ Written n → WriteAnswers e buffer' (0 ∷ n ∷ 0 ∷ [])
+  pub written : (n : ℕ) → u ≡ Ok n → WriteAnswers e buffer' (0 ∷ n ∷ 0 ∷ [])
   unfolding write_numbers
   written n p = record { said = sym (ap write_numbers p) ∙ ap (λ (x : WriteEnd). write_numbers x.result) is; buffer_is = ap (λ (x : WriteEnd). x.buffer) is }
 
-  pub not_written : (r : Refusal) (n : ℕ) → u ≡ NotWritten r → n ≡ r.number → WriteAnswers e buffer' (n ∷ r.place ∷ 0 ∷ [])
-  unfolding write_numbers refusal_numbers
-  not_written r n p q = record {
-    said = ap (λ (x : ℕ). x ∷ r.place ∷ 0 ∷ []) q ∙ sym (ap write_numbers p) ∙ ap (λ (x : WriteEnd). write_numbers x.result) is;
-    buffer_is = ap (λ (x : WriteEnd). x.buffer) is;
-  }
+  pub not_written : (r : Refusal) (numbers : List ℕ) → u ≡ Err r → numbers ≡ refusal_numbers r → WriteAnswers e buffer' numbers
+  unfolding write_numbers
+  not_written r numbers p q =
+      record { said = q ∙ sym (ap write_numbers p) ∙ ap (λ (x : WriteEnd). write_numbers x.result) is; buffer_is = ap (λ (x : WriteEnd). x.buffer) is }

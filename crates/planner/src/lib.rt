@@ -6,10 +6,10 @@ ghost use Rattle.model.specs.logic.Formula.{choose};
 ghost use Rattle.model.specs.calls.Call.{call};
 ghost use Rattle.model.specs.calls.Validate.{validated};
 ghost use Rattle.model.specs.calls.WriteBack.{written_back};
-ghost use Rattle.model.specs.calls.Numbers.{validate_numbers, SearchAnswers, WriteAnswers};
+ghost use Rattle.model.specs.calls.Numbers.{refusal_numbers, validate_numbers, SearchAnswers, WriteAnswers};
 ghost use Rattle.search.specs.Given.{runs_out};
 
-use model::{Rewritten, Validated};
+use model::Refusal;
 
 // Looks for the job's plan by the steps that the caller may use: 0 with its cost and its number of steps, or the number of a refusal with its place.
 #[unsafe(no_mangle)]
@@ -29,6 +29,15 @@ pub extern "C" fn dagzhimo_search(
     told[0]
 }
 
+// A refusal's number, with its place in `out`.
+#[tactic(auto, unfolding(model::specs::calls::Numbers::refusal_numbers))]
+fn refused(refusal: Refusal, out: &mut [u64; 2]) -> u64
+    ensures { result ∷ out.new ≡ refusal_numbers refusal }
+{
+    *out = [refusal.place() as u64, 0];
+    u64::from(refusal.number())
+}
+
 // Walks a step list of a job, for a caller: 0 with the cost and the hint bits, or the number of a refusal with its place.
 #[unsafe(no_mangle)]
 pub extern "C" fn dagzhimo_validate(
@@ -42,14 +51,11 @@ pub extern "C" fn dagzhimo_validate(
         ≡ validate_numbers (validated (call job.now needs.now rights) steps.now) }
 {
     match validate::validate(job, needs, rights, steps) {
-        Validated::Passed(cost, bits) => {
-            *out = [cost, words::wide(bits)];
+        Ok(passed) => {
+            *out = [passed.cost, u64::from(passed.hints)];
             0
         }
-        Validated::Refused(refusal) => {
-            *out = [refusal.place as u64, 0];
-            words::wide(refusal.number)
-        }
+        Err(refusal) => refused(refusal, out),
     }
 }
 
@@ -57,10 +63,7 @@ pub extern "C" fn dagzhimo_validate(
 fn count(x: u64) -> u8
     ensures { result ≡ choose (leb x 64) x 65 }
 {
-    if x > 64 {
-        return 65;
-    }
-    x as u8
+    x.min(65) as u8
 }
 
 // Writes a rule back: 0 with the number of bytes written, or the number of a refusal with its place.
@@ -75,13 +78,10 @@ pub extern "C" fn dagzhimo_write_back(
     ensures { WriteAnswers (written_back facts steps rule.now buffer.old) buffer.new (result ∷ out.new) }
 {
     match normal::write_back(count(facts), count(steps), rule, buffer) {
-        Rewritten::Written(n) => {
+        Ok(n) => {
             *out = [n as u64, 0];
             0
         }
-        Rewritten::Refused(refusal) => {
-            *out = [refusal.place as u64, 0];
-            words::wide(refusal.number)
-        }
+        Err(refusal) => refused(refusal, out),
     }
 }

@@ -1,22 +1,11 @@
 -- The entries of a memo: one that is found is right, and one that is right can be written.
-use mathlib.Core.Path.{◌≡◌, refl, sym, ap, ◌∙◌, subst, subst₂}
-use Prim.Native.Nat.{ℕ, ◌+◌, ◌*◌, ◌-◌, ◌/◌, ◌%◌, ◌≤◌, ◌<◌}
-use native.Mathlib.Nat.{div-lt_iff_lt-mul, mul-lt-mul_of_pos_right}
-use native.Mathlib.Omega.{arith}
+use Rattle.std.proofs.Common.{◌≡◌, refl, sym, ap, ◌∙◌, subst, subst₂, ℕ, ◌+◌, ◌*◌, ◌-◌, ◌/◌, ◌%◌, ◌≤◌, ◌<◌, Option, Some, List, length, get_or, set, arith}
+use Rattle.std.proofs.Common.{length-set, get_or-set_same, get_or-set_other}
 use native.Mathlib.Decide.{dec_lt}
-use mathlib.Core.List.{List}
-use lib.ListN.{length, get_or, set, length-set}
-use lib.Seq.{get_or-set_same, get_or-set_other}
 use Rattle.model.specs.logic.Names.{Names}
 use Rattle.model.specs.job.Layout.{pair_count, formula_at}
 use Rattle.progression.specs.declared.entries.Question.{Question}
-use Rattle.progression.specs.declared.entries.Recalled.{Recalled}
-use Rattle.progression.specs.declared.entries.Recalled.TheVariants.{Answer}
 use Rattle.progression.specs.Workspace.{answer, Entry, Workspace, written, asks, Recalls, Remembers}
-
--- a share of so many parts of 65,536
-pub share_lt : (h count : ℕ) → h < 65536 → 0 < count → h * count / 65536 < count
-share_lt h count l p = let m : h * count < 65536 * count = mul-lt-mul_of_pos_right l p in (div-lt_iff_lt-mul {k = 65536} (omega arith)).1 (omega arith)
 
 -- ---- the words after an entry was written
 module _ (w : List ℕ) (at : ℕ) (q : Question) (x : ℕ) where
@@ -54,12 +43,8 @@ module _ (w : List ℕ) (at : ℕ) (q : Question) (x : ℕ) where
     word_answer = get_or-set_same w3 (at + 3) x 0 (simp length-set (omega arith))
 
 -- An entry that is that of a question says its answer.
-pub recalled_at : (w : List ℕ) (q : Question) (at e : ℕ) → at ≡ 32 + 4 * e → 36 + 4 * e ≤ length w → asks w at q → Recalls w q (Answer (get_or w (at + 3) 0))
+pub recalled_at : (w : List ℕ) (q : Question) (at e : ℕ) → at ≡ 32 + 4 * e → 36 + 4 * e ≤ length w → asks w at q → Recalls w q (Some (get_or w (at + 3) 0))
 recalled_at w q at e d h a = (e, h, subst (λ (n : ℕ). asks w n q) d a, ap (λ (n : ℕ). get_or w (n + 3) 0) d)
-
--- what was asked by the entry at a place
-abbrev pub question_at : List ℕ → ℕ → Question
-question_at w at = record { key = get_or w at 0; residual = get_or w (at + 1) 0; facts = get_or w (at + 2) 0 }
 
 module _ (job : List ℕ) where
   -- four words that are those of a right entry
@@ -77,7 +62,7 @@ module _ (job : List ℕ) where
 
   module _ {w : List ℕ} (work : Workspace job w) (few : pair_count job ≤ 17) (room : 40 ≤ length w) where
     -- An answer that is recalled is right.
-    pub recalled_right : (i m : ℕ) (q : Question) (r : Recalled) (x : ℕ) → 1 ≤ i → m < 256 → q.key ≡ 256 * i + m → Recalls w q r → r ≡ Answer x
+    pub recalled_right : (i m : ℕ) (q : Question) (r : Option ℕ) (x : ℕ) → 1 ≤ i → m < 256 → q.key ≡ 256 * i + m → Recalls w q r → r ≡ Some x
         → x ≡ answer (formula_at job i) m q.residual q.facts
     recalled_right i m q r x p l k h c =
         let g = subst (Recalls w q) c h in
@@ -134,19 +119,21 @@ module _ (job : List ℕ) where
       }
 
 -- A right answer can be kept in entry e, what was there going to the next.
-pub remembered : (w : List ℕ) (e : ℕ) (q : Question) (x : ℕ) → 40 + 4 * e ≤ length w
-    → Remembers w q x (written (written w (32 + 4 * e + 4) (question_at w (32 + 4 * e)) (get_or w (32 + 4 * e + 3) 0)) (32 + 4 * e) q x)
-remembered w e q x h job work few t =
-    entry_written job
-    (subst (λ (n : ℕ). Workspace job (written w n old x₀)) next
-    (entry_written job work few (omega arith) (e + 1) old x₀ (omega arith) (work.right (omega arith) e (omega arith))))
+pub remembered : (w : List ℕ) (e : ℕ) (q old : Question) (x : ℕ) → asks w (32 + 4 * e) old → 40 + 4 * e ≤ length w
+    → Remembers w q x (written (written w (32 + 4 * e + 4) old (get_or w (32 + 4 * e + 3) 0)) (32 + 4 * e) q x)
+remembered w e q old x a h job work few t =
+    entry_written job (subst (λ (n : ℕ). Workspace job (written w n old x₀)) next moved)
     few (simp length-set (omega arith)) e q x (simp length-set (omega arith)) t
   where
-    old : Question
-    old = question_at w (32 + 4 * e)
-
     x₀ : ℕ
     x₀ = get_or w (32 + 4 * e + 3) 0
+
+    -- what was there is right as that question's answer
+    right : Entry job old.key old.residual old.facts x₀
+    right = entry_by job (sym a.0) (sym a.1) (sym a.2) refl (work.right (omega arith) e (omega arith))
+
+    moved : Workspace job (written w (32 + 4 * (e + 1)) old x₀)
+    moved = entry_written job work few (omega arith) (e + 1) old x₀ (omega arith) right
 
     next : 32 + 4 * (e + 1) ≡ 32 + 4 * e + 4
     next = omega arith

@@ -7,4 +7,3 @@ pub mod Lent
 pub mod Questions
 pub mod EntryLaws
 pub mod MemoLaws
-pub mod Preparing

@@ -1,13 +1,8 @@
 -- The numbers after the codes of facts and actions have all that a formula names.
-use mathlib.Core.Path.{◌≡◌, refl, sym, ap, ◌∙◌, subst}
-use Prim.Native.Nat.{ℕ, ◌+◌, ◌*◌, ◌-◌, ◌%◌, ◌^◌, ◌≤◌, ◌<◌}
-use native.Mathlib.Omega.{arith}
-use native.Mathlib.Nat.{mod-eq_of_lt, mod-lt, add-zero}
+use Rattle.std.proofs.Common.{◌≡◌, refl, sym, ap, ◌∙◌, subst, ℕ, ◌+◌, ◌*◌, ◌-◌, ◌%◌, ◌^◌, ◌≤◌, ◌<◌, Bool, true, ◌||◌, List, get_or, bit_or, arith, mod-eq_of_lt}
+use Rattle.std.proofs.Common.{mod-lt, add-zero}
+use Rattle.std.proofs.Math.Bool.{or-true}
 use native.Mathlib.Decide.{dec_lt}
-use mathlib.Core.Bool.{Bool, true, ◌||◌, or-true}
-use mathlib.Core.List.{List}
-use lib.Bits.{bit_or}
-use lib.ListN.{get_or}
 use Rattle.model.specs.Bits.{bit}
 use Rattle.model.specs.logic.Formula.{Formula, constant, fact, action, unary, binary}
 use Rattle.model.specs.logic.Names.{Names}

@@ -1,11 +1,9 @@
 -- Laws of the array of eight entries.
-use mathlib.Core.Path.{◌≡◌, refl, sym, ap, ◌∙◌}
-use Prim.Native.Nat.{ℕ, zero, suc, ◌-◌, ◌≤◌, ◌<◌}
-use native.Mathlib.Omega.{arith}
-use mathlib.Core.List.{List, [], ◌∷◌, ◌++◌, append_assoc}
-use lib.Bits.{bit_and}
-use lib.ListN.{length, take, get_or, set, replicate, length-append, length-replicate, get_or-append}
-use lib.Seq.{set_at, take-append_seam}
+use Rattle.std.proofs.Common.{◌≡◌, refl, sym, ap, ◌∙◌, ℕ, zero, suc, ◌+◌, ◌-◌, ◌≤◌, ◌<◌, List, [], ◌∷◌, ◌++◌, length, take, drop, get_or, set, replicate, arith}
+use Rattle.std.proofs.Common.{add-one, append_assoc, length-append}
+use Rattle.std.specs.Int.Bits.{bit_and}
+use Rattle.std.proofs.Math.ListN.{length-replicate, get_or-append}
+use Rattle.std.proofs.Math.Seq.{set_at, take-append_seam}
 use Rattle.model.specs.search.Node.{meet_all}
 use Rattle.model.proofs.job.ResidualLists.{length-meet_all}
 use Rattle.progression.specs.Padded.{padded}
@@ -45,20 +43,6 @@ take-meet_all (suc n) [] b = refl
 take-meet_all (suc n) (x ∷ a) [] = refl
 take-meet_all (suc n) (x ∷ a) (y ∷ b) = ap (λ (l : List ℕ). bit_and x y ∷ l) (take-meet_all n a b)
 
--- f 0 to f (n - 1)
-unfoldable pub row : ℕ → (ℕ → ℕ) → List ℕ
-row zero f = []
-row (suc n) f = f 0 ∷ row n (λ k. f (suc k))
-
--- The conjunction entry by entry.
-pub row_meet_all : (n : ℕ) (a b : List ℕ) → length a ≡ n → length b ≡ n → row n (λ k. bit_and (get_or a k 0) (get_or b k 0)) ≡ meet_all a b
-unfolding meet_all row
-row_meet_all zero [] b p q = refl
-row_meet_all zero (x ∷ a) b p q = absurd (omega arith)
-row_meet_all (suc n) [] b p q = absurd (omega arith)
-row_meet_all (suc n) (x ∷ a) [] p q = absurd (omega arith)
-row_meet_all (suc n) (x ∷ a) (y ∷ b) p q = ap (λ (l : List ℕ). bit_and x y ∷ l) (row_meet_all n a b (omega arith) (omega arith))
-
 -- Entries after the last formula stay 0.
 meet_all_zeros : (n : ℕ) → meet_all (replicate n 0) (replicate n 0) ≡ replicate n 0
 unfolding meet_all
@@ -76,3 +60,25 @@ pub meet_all_padded : (a b : List ℕ) → length a ≡ length b → meet_all (p
 unfolding padded
 meet_all_padded a b e =
     rw (length-meet_all a b e, ← e) (meet_all_append a b _ _ e ∙ ap (λ (l : List ℕ). meet_all a b ++ l) (meet_all_zeros (8 - length a)))
+
+-- ---- the conjunction, as a loop stores it in the first array
+-- so many entries are those of the conjunction
+abbrev pub met_of : ℕ → List ℕ → List ℕ → List ℕ
+met_of n a b = meet_all (take n a) (take n b) ++ drop n a
+
+pub met_none : (a b : List ℕ) → a ≡ met_of 0 a b
+unfolding meet_all
+met_none a b = refl
+
+-- one entry more
+met_next : (i : ℕ) (a b : List ℕ) → i < length a → i < length b
+    → set (met_of i a b) i (bit_and (get_or (met_of i a b) i 0) (get_or b i 0)) ≡ met_of (suc i) a b
+unfolding meet_all
+met_next i [] b l m = absurd (omega arith)
+met_next i (x ∷ a) [] l m = absurd (omega arith)
+met_next zero (x ∷ a) (y ∷ b) l m = refl
+met_next (suc i) (x ∷ a) (y ∷ b) l m = ap (λ (u : List ℕ). bit_and x y ∷ u) (met_next i a b (omega arith) (omega arith))
+
+pub met_more : (i : ℕ) (a b t : List ℕ) → i < length a → i < length b → t ≡ met_of i a b
+    → set t i (bit_and (get_or t i 0) (get_or b i 0)) ≡ met_of (i + 1) a b
+met_more i a b t l m e = rw (e, add-one) (met_next i a b l m)

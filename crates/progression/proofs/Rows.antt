@@ -1,23 +1,21 @@
--- Laws of the residuals of formulas in neighbouring sections, one formula more.
-use mathlib.Core.Path.{◌≡◌, refl, sym, ap, ◌∙◌}
-use Prim.Native.Nat.{ℕ, zero, suc, ◌+◌, ◌≤◌, ◌<◌}
-use native.Mathlib.Omega.{arith}
-use native.Mathlib.Numerals.{add-one}
+-- Laws of the residuals of formulas in neighbouring sections, one formula more, and of those of a group.
+use Rattle.std.proofs.Common.{◌≡◌, refl, sym, ap, ◌∙◌, ℕ, zero, suc, ◌+◌, ◌≤◌, ◌<◌, Bool, true, false, ◌&&◌, List, [], ◌∷◌, ◌++◌, length, take, get_or, set}
+use Rattle.std.proofs.Common.{replicate, arith, add-one, take-suc, length-take-le}
+use Rattle.std.proofs.Math.Bool.{and-false}
 use native.Mathlib.Decide.{dec_lt}
-use mathlib.Core.Bool.{Bool, true, false, ◌&&◌, and-false}
-use mathlib.Core.List.{List, [], ◌∷◌, ◌++◌}
-use lib.ListN.{length, take, get_or, set, replicate}
-use lib.Seq.{take-suc, length-take-le}
+use Rattle.model.specs.Verdict.{no_refusal}
 use Rattle.model.specs.logic.Formula.{Formula}
 use Rattle.model.specs.logic.Parts.{most_parts, parts_of}
 use Rattle.model.specs.logic.Truth.{World}
 use Rattle.model.specs.logic.Progression.{residual, progressed, closing}
 use Rattle.model.specs.job.Job.{list_of}
-use Rattle.model.specs.job.Layout.{constraint_count, hint_count, formula_at, job_of}
+use Rattle.model.specs.job.Layout.{constraint_count, hint_count, pair_count, formula_at, job_of}
+use Rattle.model.specs.job.Decoding.{job_verdict}
 use Rattle.model.specs.search.Node.{residuals, progressed_all, closing_all}
 use Rattle.model.proofs.job.VerdictLaws.{length-list_of}
 use Rattle.model.proofs.job.ResidualLists.{length-residuals, length-progressed_all}
-use Rattle.progression.specs.Padded.{padded, formulas_from}
+use Rattle.progression.specs.declared.Group.TheVariants.{Constraints, Hints}
+use Rattle.progression.specs.Padded.{padded, formulas_from, count_of, AreSections}
 use Rattle.progression.proofs.Padding.{set_padded, padded_none}
 
 -- ---- one formula more after others
@@ -62,7 +60,7 @@ module _ (bytes : List ℕ) where
   unfolding job_of formulas_from
   constraints_from = refl
 
-  pub hints_from : (job_of bytes).hints ≡ formulas_from bytes (1 + constraint_count bytes) (hint_count bytes)
+  hints_from : (job_of bytes).hints ≡ formulas_from bytes (1 + constraint_count bytes) (hint_count bytes)
   unfolding job_of formulas_from
   hints_from = refl
 
@@ -72,9 +70,17 @@ module _ (bytes : List ℕ) where
     length-formulas_from n = length-list_of _ n
 
     -- no formula: nothing is left of it
+    pub nothing_first : (w : World) → replicate 8 0 ≡ padded (residuals (formulas_from bytes from 0) w)
+    unfolding formulas_from list_of residuals
+    nothing_first w = padded_none
+
     pub nothing_next : (w : World) → replicate 8 0 ≡ padded (progressed_all (formulas_from bytes from 0) [] w)
     unfolding formulas_from list_of progressed_all
     nothing_next w = padded_none
+
+    pub nothing_closes : (w : World) → closing_all (formulas_from bytes from 0) [] w ≡ true
+    unfolding formulas_from list_of closing_all
+    nothing_closes w = refl
 
     formulas_from_more : (n : ℕ) → formulas_from bytes from (n + 1) ≡ formulas_from bytes from n ++ (formula_at bytes (from + n) ∷ [])
     unfolding formulas_from list_of
@@ -129,3 +135,28 @@ module _ (bytes : List ℕ) where
                 → closing_all (formulas_from bytes from n) (take n rs) w && last ≡ false
             go (yes a) ih = rw (ih a e)
             go (no a) ih = let q : n ≡ i = omega arith in rw (q, e, and-false)
+
+  -- ---- the sections of a group
+  pub constraints_are : (n : ℕ) → job_verdict bytes ≡ no_refusal → n ≡ constraint_count bytes → n ≤ 8
+      → AreSections bytes Constraints (record { from = 1; count = n })
+  unfolding pair_count count_of
+  constraints_are n a e l = record {
+    accepted = a;
+    starts = omega arith;
+    count = e;
+    ends = omega arith;
+    few = l;
+    are = rw e (sym constraints_from);
+  }
+
+  pub hints_are : (m n : ℕ) → job_verdict bytes ≡ no_refusal → m ≡ constraint_count bytes → n ≡ hint_count bytes → n ≤ 8
+      → AreSections bytes Hints (record { from = 1 + m; count = n })
+  unfolding pair_count count_of
+  hints_are m n a d e l = record {
+    accepted = a;
+    starts = omega arith;
+    count = e;
+    ends = omega arith;
+    few = l;
+    are = rw (d, e) (sym hints_from);
+  }

@@ -3,23 +3,38 @@
 --   from word 32 on             the memo, in entries of four words: key, residual, facts, answer
 -- A key is 256 times the section, plus the action that was made, 255 for one that the formula does not name, 254 in the closing world. So no key
 -- is 0, and an entry of zeros is empty. Entries are used in pairs, so a workspace of under 40 words has none, and nothing is written to it.
-use Rattle.std.specs.Prelude.{◌≡◌, Bool, false, ℕ, ◌+◌, ◌*◌, ◌-◌, ◌/◌, ◌%◌, ◌≤◌, ◌<◌, List, eqb, leb, length, get_or, set, replicate}
-use Rattle.std.proofs.Math.Option.{none}
-use Rattle.model.specs.Bits.{digit}
+use Rattle.std.specs.Prelude.{◌≡◌, Bool, false, ℕ, ◌+◌, ◌*◌, ◌-◌, ◌/◌, ◌%◌, ◌≤◌, ◌<◌, Option, None, Some, List, eqb, leb, ltb, length, get_or, set, replicate}
+use Rattle.model.specs.Bits.{bit, digit}
 use Rattle.model.specs.logic.Formula.{Formula, choose}
 use Rattle.model.specs.logic.Names.{Names}
 use Rattle.model.specs.logic.Parts.{most_parts, parts_of}
 use Rattle.model.specs.logic.Progression.{progressed, closing}
-use Rattle.model.specs.job.Layout.{pair_count, pair_offset, pair_length, formula_at}
-use Rattle.residual.specs.Node.{made_by}
+use Rattle.model.specs.job.Layout.{pair_count, formula_at}
+use Rattle.model.specs.job.Decoding.{job_verdict}
+use Rattle.model.specs.Verdict.{no_refusal}
+use Rattle.job.specs.Accepted.{formula_bytes}
 use Rattle.progression.specs.declared.entries.Question.{Question}
-use Rattle.progression.specs.declared.entries.Recalled.{Recalled}
-use Rattle.progression.specs.declared.entries.Recalled.TheVariants.{Answer, Nothing}
+use Rattle.progression.specs.declared.memo.World.{World}
+use Rattle.progression.specs.declared.memo.World.TheVariants.{After, Closing}
 
--- what a residual r of φ leaves in a state s after action m; where m is 254, whether it is true of the closing world
+-- the action of a key, if it is one
+abbrev pub made_by : ℕ → Option ℕ
+made_by a = choose (ltb a 64) (Some a) None
+
+-- the number of a world in a key
+abbrev pub made_code : World → ℕ
+made_code (After (Some a)) = a
+made_code (After None) = 255
+made_code Closing = 254
+
+-- an action, if it is one of a set
+abbrev pub named_of : ℕ → ℕ → Option ℕ
+named_of actions a = choose (bit actions a) (Some a) None
+
+-- what a residual r of φ leaves in a state s in the world with code m, or whether it is true of the closing one
 abbrev pub answer : Formula → ℕ → ℕ → ℕ → ℕ
 answer φ m r s =
-    choose (eqb m 254) (digit (closing (parts_of φ) r (record { state = s; made = none })))
+    choose (eqb m (made_code Closing)) (digit (closing (parts_of φ) r (record { state = s; made = None })))
     (progressed most_parts (parts_of φ) r (record { state = s; made = made_by m }))
 
 -- an entry is empty, or its answer is right
@@ -33,9 +48,10 @@ pub record Workspace (job work : List ℕ) : Type 0 where
   pub right : 40 ≤ length work → (e : ℕ) → 36 + 4 * e ≤ length work
       → Entry job (get_or work (32 + 4 * e) 0) (get_or work (32 + 4 * e + 1) 0) (get_or work (32 + 4 * e + 2) 0) (get_or work (32 + 4 * e + 3) 0)
 
--- the bytes of all formulas: they stand after the task
-abbrev pub formula_bytes : List ℕ → ℕ
-formula_bytes job = length job - (pair_offset job 0 + pair_length job 0)
+-- the same, where the job is accepted
+pub record Kept (job work : List ℕ) : Type 0 where
+  pub accepted : job_verdict job ≡ no_refusal
+  pub workspace : Workspace job work
 
 -- there are formulas, and in so many worlds they have enough bytes
 abbrev pub pays : List ℕ → ℕ → Bool
@@ -54,9 +70,9 @@ abbrev pub asks : List ℕ → ℕ → Question → Type 0
 asks work at q = (get_or work at 0 ≡ q.key) × (get_or work (at + 1) 0 ≡ q.residual) × (get_or work (at + 2) 0 ≡ q.facts)
 
 -- An answer that is recalled stands in an entry of the question.
-abbrev pub Recalls : List ℕ → Question → Recalled → Type 0
-Recalls work q (Answer x) = (e : ℕ) × (36 + 4 * e ≤ length work) × asks work (32 + 4 * e) q × (x ≡ get_or work (32 + 4 * e + 3) 0)
-Recalls work q Nothing = Unit {0}
+abbrev pub Recalls : List ℕ → Question → Option ℕ → Type 0
+Recalls work q (Some x) = (e : ℕ) × (36 + 4 * e ≤ length work) × asks work (32 + 4 * e) q × (x ≡ get_or work (32 + 4 * e + 3) 0)
+Recalls work q None = Unit {0}
 
 -- With a right answer remembered, it is still a workspace of the job.
 abbrev pub Remembers : List ℕ → Question → ℕ → List ℕ → Type 0

@@ -1,20 +1,13 @@
 // The entries of a memo: four words each, used in pairs from word 32 of a workspace on.
-ghost use Rattle.std.specs.Prelude.{◌≡◌, true, ◌+◌, ◌*◌, ◌≤◌, ◌<◌, length};
+ghost use Rattle.std.specs.Prelude.{◌≡◌, ◌+◌, ◌*◌, ◌≤◌, ◌<◌, length};
 ghost use Rattle.progression.specs.Workspace.{written, asks, Recalls, Remembers};
 
 // What is asked: a section and an action in one number, a residual, and of the state the facts that the formula names.
-#[derive(Clone, Copy)]
+#[derive(Clone, Copy, Debug, PartialEq, Eq)]
 pub struct Question {
     pub key: u64,
     pub residual: u64,
     pub facts: u64,
-}
-
-// What the memo says to a question.
-#[derive(Clone, Copy)]
-pub enum Recalled {
-    Answer(u64),
-    Nothing,
 }
 
 // A number that differs for most questions: halves times odd numbers of 32 bits, since a product with a whole word could overflow.
@@ -31,65 +24,60 @@ fn hash(q: Question) -> usize
 }
 
 // The first of the two entries that a question may be kept in, of those that so many words have room for.
-pub fn entry_of(words: usize, q: Question) -> usize
-    requires { (40 ≤ words) × (words ≤ 65536) }
-    ensures { 40 + 4 * result ≤ words }
+pub fn entry_of(count: usize, q: Question) -> usize
+    requires { (40 ≤ count) × (count ≤ 65536) }
+    ensures { 40 + 4 * result ≤ count }
 {
-    let pairs = (words - 32) / 8;
+    let pairs = (count - 32) / 8;
     2 * (hash(q) * pairs / 65536)
 }
 
-// Whether the entry at a place is that of a question.
-fn is_entry(work: &[u64], at: usize, q: Question) -> bool
-    requires { at + 4 ≤ length work.now }
-    ensures { result ≡ true → asks work.now at q }
+// The question of the entry at a place.
+fn question_at(words: &[u64], at: usize) -> Question
+    requires { at + 4 ≤ length words.now }
+    ensures { asks words.now at result }
 {
-    if work[at] == q.key {
-        if work[at + 1] == q.residual {
-            return work[at + 2] == q.facts;
-        }
+    Question {
+        key: words[at],
+        residual: words[at + 1],
+        facts: words[at + 2],
     }
-    false
 }
 
 // What entry e or the one after it says to a question.
-pub fn recall(work: &[u64], e: usize, q: Question) -> Recalled
-    requires { 40 + 4 * e ≤ length work.now }
-    ensures { Recalls work.now q result }
+pub fn recall(words: &[u64], e: usize, q: Question) -> Option<u64>
+    requires { 40 + 4 * e ≤ length words.now }
+    ensures { Recalls words.now q result }
 {
     let first = 32 + 4 * e;
-    if is_entry(work, first, q) {
-        return Recalled::Answer(work[first + 3]);
+    if question_at(words, first) == q {
+        return Some(words[first + 3]);
     }
     let second = 36 + 4 * e;
-    if is_entry(work, second, q) {
-        return Recalled::Answer(work[second + 3]);
+    if question_at(words, second) == q {
+        return Some(words[second + 3]);
     }
-    Recalled::Nothing
+    None
 }
 
-fn put(work: &mut [u64], at: usize, q: Question, x: u64)
-    requires { at + 4 ≤ length work.old }
-    ensures { work.new ≡ written work.old at q x }
+fn put(words: &mut [u64], at: usize, q: Question, x: u64)
+    requires { at + 4 ≤ length words.old }
+    ensures { words.new ≡ written words.old at q x }
 {
-    work[at] = q.key;
-    work[at + 1] = q.residual;
-    work[at + 2] = q.facts;
-    work[at + 3] = x;
+    words[at] = q.key;
+    words[at + 1] = q.residual;
+    words[at + 2] = q.facts;
+    words[at + 3] = x;
 }
 
 // Keeps the answer to a question in entry e. What was there goes to the entry after it, so that two questions which meet are both kept.
-pub fn remember(work: &mut [u64], e: usize, q: Question, x: u64)
-    requires { 40 + 4 * e ≤ length work.old }
-    ensures { Remembers work.old q x work.new }
+pub fn remember(words: &mut [u64], e: usize, q: Question, x: u64)
+    requires { 40 + 4 * e ≤ length words.old }
+    ensures { Remembers words.old q x words.new }
 {
     let at = 32 + 4 * e;
-    let old = Question {
-        key: work[at],
-        residual: work[at + 1],
-        facts: work[at + 2],
-    };
-    let answer = work[at + 3];
-    put(work, at + 4, old, answer);
-    put(work, at, q, x);
+    let old = question_at(words, at);
+    let answer = words[at + 3];
+    put(words, at + 4, old, answer);
+    put(words, at, q, x);
 }

@@ -6,14 +6,12 @@ ghost use Rattle.progression.specs.Numbers.{After};
 pub fn after(s: &[u8], code: u8) -> u64
     ensures { After code s.now result }
 {
-    let mut found = 0u64;
-    let mut i = 1;
-    while i < s.len() {
+    let mut found = 0;
+    for i in 1..s.len() {
         let n = s[i] % 64;
         if s[i - 1] == code {
-            found = found | (1u64 << n);
+            found |= 1 << n;
         }
-        i += 1;
     }
     found
 }

@@ -1,7 +1,7 @@
 // Prints what a call gave, as `plan 3 16` with one step number a line after it, or as `refused 12 0`.
 #![tactic(auto)]
 
-use model::{Rewritten, Validated};
+use model::{Passed, Planned, Refusal};
 use std::io;
 
 // The steps of a plan, one a line.
@@ -12,45 +12,34 @@ fn steps(to: &impl Print, plan: &[u8]) -> io::Result<()> {
     Ok(())
 }
 
-// A refusal's number and place.
-fn refused(to: &impl Print, number: u64, place: u64) -> io::Result<()> {
-    println!(to; "refused {number} {place}")
-}
-
-// What a search gave: its three numbers, and the part of the plan buffer that holds the steps.
-pub fn planned(to: &impl Print, told: [u64; 3], part: &[u8]) -> io::Result<()> {
-    let [number, value, count] = told;
-    if number != 0 {
-        return refused(to, number, value);
+// What a search gave, and the part of the plan buffer that holds the steps.
+pub fn planned(to: &impl Print, end: Result<Planned, Refusal>, part: &[u8]) -> io::Result<()> {
+    match end {
+        Ok(plan) => {
+            println!(to; "plan {} {}", plan.steps, plan.cost)?;
+            steps(to, part)
+        }
+        Err(refusal) => println!(to; "{refusal}"),
     }
-    println!(to; "plan {count} {value}")?;
-    steps(to, part)
 }
 
 // What a read-through gave: `passed 16 1`, the cost and the hint bits, or a refusal.
-pub fn validated(to: &impl Print, end: Validated) -> io::Result<()> {
+pub fn validated(to: &impl Print, end: Result<Passed, Refusal>) -> io::Result<()> {
     match end {
-        Validated::Passed(cost, bits) => println!(to; "passed {cost} {bits}"),
-        Validated::Refused(r) => refused(to, u64::from(r.number), r.place as u64),
+        Ok(passed) => println!(to; "passed {} {}", passed.cost, passed.hints),
+        Err(refusal) => println!(to; "{refusal}"),
     }
 }
 
-// The first n bytes of a buffer in hexadecimal, each after a space.
-fn bytes(to: &impl Print, buffer: &[u8], n: usize) -> io::Result<()> {
+// What writing a rule back gave: `written 6:` and the bytes in hexadecimal, each after a space, or a refusal.
+pub fn rewritten(to: &impl Print, end: Result<usize, Refusal>, buffer: &[u8]) -> io::Result<()> {
+    let n = match end {
+        Ok(n) => n,
+        Err(refusal) => return println!(to; "{refusal}"),
+    };
+    print!(to; "written {n}:")?;
     for byte in buffer.iter().take(n) {
         print!(to; " {byte:02x}")?;
     }
-    Ok(())
-}
-
-// What writing a rule back gave: `written 6:` and the bytes, or a refusal.
-pub fn rewritten(to: &impl Print, end: Rewritten, buffer: &[u8]) -> io::Result<()> {
-    match end {
-        Rewritten::Written(n) => {
-            print!(to; "written {n}:")?;
-            bytes(to, buffer, n)?;
-            println!(to)
-        }
-        Rewritten::Refused(r) => refused(to, u64::from(r.number), r.place as u64),
-    }
+    println!(to)
 }

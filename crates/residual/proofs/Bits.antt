@@ -1,7 +1,5 @@
 -- A machine word is the table of its bits.
-use mathlib.Core.Path.{◌≡◌, sym, ◌∙◌}
-use mathlib.Core.Bool.{Bool}
-use Prim.Native.Nat.{ℕ, ◌^◌, ◌<◌}
+use Rattle.std.proofs.Common.{◌≡◌, sym, ◌∙◌, ℕ, ◌^◌, ◌<◌, Bool}
 use Rattle.model.specs.Bits.{bit, of_bits}
 use Rattle.model.proofs.bits.Bits.{of_bits_bit, of_bits_cong}
 

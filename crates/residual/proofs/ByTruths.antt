@@ -1,8 +1,5 @@
 -- Evaluating a formula by the truths of its fact codes gives the same remainder as evaluating it in the world where they were read.
-use mathlib.Core.Path.{◌≡◌, refl, ap, ap₂}
-use Prim.Native.Nat.{ℕ, suc, ◌+◌, ◌^◌}
-use mathlib.Core.Bool.{Bool, true, false, not, ◌&&◌, ◌||◌}
-use mathlib.Core.List.{[], ◌∷◌}
+use Rattle.std.proofs.Common.{◌≡◌, refl, ap, ap₂, ℕ, suc, ◌+◌, ◌^◌, Bool, true, false, not, ◌&&◌, ◌||◌, [], ◌∷◌}
 use Rattle.model.specs.declared.Constant.TheVariants.{False, True, Last}
 use Rattle.model.specs.declared.Unary.TheVariants.{Not, Next, Eventually, Always}
 use Rattle.model.specs.declared.Binary.TheVariants.{And, Or, Until, Release}

@@ -1,8 +1,5 @@
 -- The truths of fact codes and the remainder by them, evaluated on a small formula.
-use mathlib.Core.Path.{◌≡◌, refl}
-use Prim.Native.Nat.{ℕ}
-use mathlib.Core.Option.{none, some}
-use mathlib.Core.List.{[], ◌∷◌, map}
+use Rattle.std.proofs.Common.{◌≡◌, refl, ℕ, [], ◌∷◌, map, None, Some}
 use Rattle.model.specs.declared.Unary.TheVariants.{Not}
 use Rattle.model.specs.declared.Binary.TheVariants.{And, Until}
 use Rattle.model.specs.logic.Formula.{Formula, fact, action, unary, binary, encode}
@@ -32,8 +29,8 @@ unfolding read_to
 pass = refl
 
 -- the remainder by truths, a table of one unknown: dead where fact 3 is true, the rule itself where it is not, and true once fact 4 is and action 3 was made
-remainders : residual_by 1 rule (record { truths = 2; made = some 3 }) ∷ residual_by 1 rule (record { truths = 4; made = none })
-    ∷ residual_by 1 rule (record { truths = 4; made = some 3 }) ∷ []
+remainders : residual_by 1 rule (record { truths = 2; made = Some 3 }) ∷ residual_by 1 rule (record { truths = 4; made = None })
+    ∷ residual_by 1 rule (record { truths = 4; made = Some 3 }) ∷ []
     ≡ 0 ∷ 2 ∷ 3 ∷ []
 unfolding rule residual_by
 remainders = refl

@@ -1,32 +1,35 @@
 -- A formula's truth table is made of its operands' tables.
-use mathlib.Core.Path.{◌≡◌, refl, ap, ap₂}
-use mathlib.Core.Bool.{Bool, true, false, not, ◌&&◌, ◌||◌}
-use Prim.Native.Nat.{ℕ, suc, ◌+◌, ◌<◌}
-use mathlib.Core.Option.{none, some}
-use native.Mathlib.Omega.{arith}
-use lib.Dec.{ltb, eqb}
-use borrow.Author.Tests.{ltb-false, ne_eqb}
+use Rattle.std.proofs.Common.{◌≡◌, refl, ap, ap₂, ℕ, suc, ◌+◌, ◌<◌, Bool, true, false, not, ◌&&◌, ◌||◌, Option, None, Some, eqb}
+use Rattle.std.specs.Option.{option_eq}
+use denote.Enum.Bare.{sameb}
+use Rattle.model.specs.contracts.Unary.{the_type}
 use Rattle.model.specs.declared.Unary.{Unary}
 use Rattle.model.specs.declared.Unary.TheVariants.{Not, Next, Eventually, Always}
 use Rattle.model.specs.declared.Binary.{Binary}
 use Rattle.model.specs.Bits.{bit}
-use Rattle.model.specs.logic.Formula.{Formula, unary, binary, choose}
+use Rattle.model.specs.logic.Formula.{Formula, unary, binary}
 use Rattle.model.specs.logic.Parts.{size, count, temporal, temporal1, temporal2}
 use Rattle.model.specs.logic.Truth.{is_made}
 use Rattle.model.proofs.bits.Bits.{bit_of_bits, of_bits_cong}
 use Rattle.formula.specs.Extent.{is_next}
 use Rattle.residual.specs.Facts.{Valuation}
-use Rattle.residual.specs.Node.{made_by, truth, truth1, truth2, of_nothing1, of_nothing2, ahead, after, table_of, ahead_table, table1, table2}
+use Rattle.residual.specs.Node.{truth, truth1, truth2, of_nothing1, of_nothing2, ahead, after, table_of, ahead_table, table1, table2}
 use Rattle.residual.specs.Walk.{starts}
 
--- an action was made if it is the one that the code has
-pub made_by_lem : (a n : ℕ) → n < 64 → eqb a n ≡ is_made (made_by a) n
+-- ---- what the code compares
+
+-- an operator with the next
+pub compared_next : (o : Unary) → sameb the_type o Next ≡ is_next o
+compared_next Not = refl
+compared_next Next = refl
+compared_next Eventually = refl
+compared_next Always = refl
+
+-- the action that was made, if one was, with an action
+pub compared_action : (made : Option ℕ) (a : ℕ) → option_eq eqb made (Some a) ≡ is_made made a
 unfolding is_made
-made_by_lem a n h = go (ltb a 64) refl
-  where
-    go : (b : Bool) → ltb a 64 ≡ b → eqb a n ≡ is_made (choose b (some a) none) n
-    go true e = refl
-    go false e = ne_eqb a n (λ d. omega (arith, ltb-false a 64 e))
+compared_action None a = refl
+compared_action (Some b) a = refl
 
 module _ (closing : Bool) (v : Valuation) where
   -- ---- the bits of a table

@@ -1,12 +1,7 @@
 -- The pass over a formula's bytes reads the truths of its fact codes: at each code, what was read and what is ahead make up the whole.
-use mathlib.Core.Path.{◌≡◌, refl, sym, ap, ◌∙◌, subst}
-use Prim.Native.Nat.{ℕ, suc, ◌+◌, ◌*◌, ◌^◌, ◌<◌, ◌≤◌, ◌%◌}
-use native.Mathlib.Omega.{arith}
-use mathlib.Core.List.{List, [], ◌∷◌}
-use lib.Bits.{bit_or, or_zero_r}
-use lib.Pow.{shl_exact}
-use lib.Dec.{eqb}
-use lib.ListN.{length, get_or}
+use Rattle.std.proofs.Common.{◌≡◌, refl, sym, ap, ◌∙◌, subst, ℕ, suc, ◌+◌, ◌*◌, ◌%◌, ◌^◌, ◌<◌, ◌≤◌, List, [], ◌∷◌, arith, bit_or, shl_exact, eqb, length}
+use Rattle.std.proofs.Common.{get_or}
+use Rattle.std.specs.Int.Bits.{or_zero_r}
 use Rattle.model.specs.declared.Code.{Code}
 use Rattle.model.specs.declared.Code.TheVariants.{Leaf, Fact, Action, One, Two, Unknown}
 use Rattle.model.specs.Bits.{bit, digit}

@@ -1,13 +1,7 @@
 -- The tables that the walk leaves are those of the formula's carried parts, in their order: at a setting they make the number of the parts' truths.
-use mathlib.Core.Path.{◌≡◌, refl, sym, ap, ◌∙◌}
-use mathlib.Core.Bool.{Bool, true, false}
-use mathlib.Core.List.{List, [], ◌∷◌, ◌++◌}
-use Prim.Native.Nat.{ℕ, zero, suc, ◌+◌, ◌<◌, ◌≤◌}
-use native.Mathlib.Nat.{add-zero, zero-add, lt_of_lt_of_le}
-use native.Mathlib.Omega.{arith}
-use lib.ListN.{length, get_or, set, replicate, length-set}
-use lib.Seq.{set_comm, get_or-set_same, get_or-set_other}
-use lib.Pow.{pow_mono}
+use Rattle.std.proofs.Common.{◌≡◌, refl, sym, ap, ◌∙◌, ℕ, zero, suc, ◌+◌, ◌<◌, ◌≤◌, Bool, true, false, List, [], ◌∷◌, ◌++◌, add-zero, zero-add, lt_of_lt_of_le}
+use Rattle.std.proofs.Common.{arith, length, get_or, set, replicate, length-set, get_or-set_same, get_or-set_other, pow_mono}
+use Rattle.std.proofs.Math.Seq.{set_comm}
 use Rattle.model.specs.declared.Unary.TheVariants.{Not, Next, Eventually, Always}
 use Rattle.model.specs.declared.Binary.TheVariants.{And, Or, Until, Release}
 use Rattle.model.specs.Bits.{bit, bits_of}

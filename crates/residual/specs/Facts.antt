@@ -1,7 +1,6 @@
 -- The facts of a formula, read once in a world: one bit for the truth of each fact code. What runs over the settings of the carried parts is given
 -- these truths and the action that was made, and no state.
-use Rattle.std.specs.Prelude.{ℕ, suc, ◌+◌, ◌*◌, ◌/◌, ◌^◌}
-use Rattle.std.proofs.Math.Option.{Option}
+use Rattle.std.specs.Prelude.{ℕ, suc, ◌+◌, ◌*◌, ◌/◌, ◌^◌, Option}
 use Rattle.std.specs.Int.Bits.{bit_or}
 use Rattle.model.specs.Bits.{bit, digit}
 use Rattle.model.specs.logic.Formula.{Formula, constant, fact, action, unary, binary}
@@ -37,3 +36,7 @@ pub record Valuation : Type 0 where
 -- what is known after the facts of a formula were read in a world
 abbrev pub read_in : World → Formula → Valuation
 read_in w φ = record { truths = fact_truths φ 0 w.state; made = w.made }
+
+-- the same of what was read from a section's start on
+abbrev pub known_in : World → Parsed → Valuation
+known_in w p = record { truths = truths_read p w.state; made = w.made }

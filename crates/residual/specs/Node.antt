@@ -1,7 +1,6 @@
 -- The truth of a formula in one world by that of its operands, and its truth table by theirs. `closing` says that the world is the closing
 -- one: no world is ahead of it. Before it, the truth in the worlds ahead is an unknown, one for each carried part.
-use Rattle.std.specs.Prelude.{ℕ, suc, ◌+◌, Bool, true, false, not, ◌&&◌, ◌||◌, ltb}
-use Rattle.std.proofs.Math.Option.{Option, none, some}
+use Rattle.std.specs.Prelude.{ℕ, suc, ◌+◌, Bool, true, false, not, ◌&&◌, ◌||◌}
 use Rattle.model.specs.declared.Constant.{Constant}
 use Rattle.model.specs.declared.Constant.TheVariants.{False, True, Last}
 use Rattle.model.specs.declared.Unary.{Unary}
@@ -9,18 +8,14 @@ use Rattle.model.specs.declared.Unary.TheVariants.{Not, Next, Eventually, Always
 use Rattle.model.specs.declared.Binary.{Binary}
 use Rattle.model.specs.declared.Binary.TheVariants.{And, Or, Until, Release}
 use Rattle.model.specs.Bits.{bit, of_bits}
-use Rattle.model.specs.logic.Formula.{Formula, constant, fact, action, unary, binary, choose}
+use Rattle.model.specs.logic.Formula.{Formula, constant, fact, action, unary, binary}
 use Rattle.model.specs.logic.Parts.{size, count, temporal1, temporal2}
 use Rattle.model.specs.logic.Truth.{is_made}
 use Rattle.residual.specs.declared.Moment.{Moment}
 use Rattle.residual.specs.Facts.{Valuation, truth_bit}
 
--- the action that was made, as the code has it
-abbrev pub made_by : ℕ → Option ℕ
-made_by a = choose (ltb a 64) (some a) none
-
 abbrev pub valuation_of : Moment → Valuation
-valuation_of m = record { truths = m.truths; made = made_by m.action }
+valuation_of m = record { truths = m.truths; made = m.action }
 
 -- ---- by the operands' truth
 abbrev pub truth0 : Bool → Constant → Bool

@@ -1,9 +1,12 @@
 -- What the crate's three functions answer of a section's formula.
-use Rattle.std.specs.Prelude.{◌≡◌, ℕ, ◌≤◌, Bool, false, List, length}
+use Rattle.std.specs.Prelude.{◌≡◌, ℕ, ◌≤◌, Bool, false, List, length, replicate}
 use Rattle.model.specs.logic.Reading.{Parsed, formula, wrong}
 use Rattle.model.specs.logic.Parts.{most_bytes, most_parts, count, parts_of}
 use Rattle.model.specs.logic.Truth.{World}
 use Rattle.model.specs.logic.Progression.{residual, progressed, closing}
+use Rattle.residual.specs.declared.Tables.{Tables}
+use Rattle.residual.specs.Facts.{known_in}
+use Rattle.residual.specs.Walk.{evaluated, filled_by}
 
 -- a formula was read that fills the section's bytes s, and it has no more carried parts and no more bytes than it may
 abbrev pub Ready : List ℕ → Parsed → Type 0
@@ -24,3 +27,8 @@ unfoldable pub closing_of : Parsed → ℕ → World → Bool
 unfolding closing parts_of
 closing_of (formula φ n) r w = closing (parts_of φ) r w
 closing_of (wrong p) r w = false
+
+-- the formula's own table in a world, and the tables of its carried parts
+pub record IsTables (p : Parsed) (w : World) (closing : Bool) (t : Tables) : Type 0 where
+  pub own : t.own ≡ (evaluated closing (known_in w p) p 0 false 0).table
+  pub parts : t.parts ≡ filled_by closing (known_in w p) p 0 false 0 (replicate most_parts 0)

@@ -1,7 +1,6 @@
 -- The walk over a formula's bytes: the numbers of its carried parts, and the tables that it leaves. `under` says that a formula is the operand
 -- of a next, n is the number of the next carried part.
-use Rattle.std.specs.Prelude.{ℕ, suc, ◌+◌, ◌≤◌, Bool, true, ◌||◌, List, set}
-use Rattle.std.proofs.Math.Bool.{false}
+use Rattle.std.specs.Prelude.{ℕ, suc, ◌+◌, ◌≤◌, Bool, true, false, ◌||◌, List, set}
 use Rattle.model.specs.declared.Unary.{Unary}
 use Rattle.model.specs.declared.Binary.{Binary}
 use Rattle.model.specs.logic.Formula.{Formula, constant, fact, action, unary, binary}

@@ -31,7 +31,7 @@ fn read_code(s: &[u8], state: u64, r: Reading) -> Reading
 {
     let at = r.at;
     let b = at + 1;
-    match formula::code_of(s[at]) {
+    match Code::from(s[at]) {
         Code::Fact => Reading {
             truths: r.truths | truth_at(state, s[b], at),
             at: b + 1,
@@ -53,6 +53,7 @@ pub fn read(s: &[u8], state: u64) -> u64
     ensures { result ≡ truths_read (parsed 64 64 s.now 0) state }
 {
     let mut r = Reading { truths: 0, at: 0 };
+    // A code takes one byte or two, so the positions are no range.
     while r.at < s.len() {
         r = read_code(s, state, r);
     }

@@ -1,27 +1,26 @@
-// What a formula leaves after a world: a truth table of its carried parts. One pass over the formula's bytes reads the truths of its fact codes; a
-// walk over them, which is given these truths and no state, makes the table.
+// What a formula leaves after a world: a truth table of its carried parts. One pass over the formula's bytes reads the
+// truths of its fact codes; a walk over them, which is given these truths and no state, makes the table.
 #![tactic(auto)]
 
 ghost use Rattle.std.specs.Prelude.{◌≡◌, true, false, ◌+◌, ◌<◌, ◌≤◌};
-ghost use Rattle.std.proofs.Math.Option.{none, some};
 ghost use Rattle.model.specs.logic.Parts.{most_parts};
 ghost use Rattle.model.specs.logic.Reading.{parsed};
 ghost use Rattle.bits.specs.Tables.{everywhere};
 ghost use Rattle.formula.specs.Extent.{carries};
 ghost use Rattle.residual.specs.Node.{truth0, of_nothing1, of_nothing2, after, ahead_table, table1, table2, valuation_of};
 ghost use Rattle.residual.specs.Walk.{starts, put, numbers_of, Few, evaluated, filled_by, leaf, one, two};
-ghost use Rattle.residual.specs.Residual.{Ready, residual_of, progressed_of, closing_of};
+ghost use Rattle.residual.specs.Residual.{Ready, IsTables, residual_of, progressed_of, closing_of};
 
 use model::{Binary, Code, Constant, MOST_PARTS, Unary};
 
 mod facts; // facts.rt: the truths of a formula's fact codes
 
-// What is known of a world: the truths of the formula's fact codes, the number of the action that was made (255 where none was), and whether it is the
-// closing one.
+// What is known of a world: the truths of the formula's fact codes, the action that was made, if one was, and whether it
+// is the closing one.
 #[derive(Clone, Copy)]
 struct Moment {
     truths: u64,
-    action: u8,
+    action: Option<u8>,
     closing: bool,
 }
 
@@ -47,23 +46,14 @@ fn truth_of(c: Constant, closing: bool) -> bool
 fn of_nothing_one(o: Unary) -> bool
     ensures { result ≡ of_nothing1 o }
 {
-    match o {
-        Unary::Not => false,
-        Unary::Next => false,
-        Unary::Eventually => false,
-        Unary::Always => true,
-    }
+    o == Unary::Always
 }
 
+// Operators of one and of two operands are two types, so each has its function, here and below.
 fn of_nothing_two(o: Binary) -> bool
     ensures { result ≡ of_nothing2 o }
 {
-    match o {
-        Binary::And => false,
-        Binary::Or => false,
-        Binary::Until => false,
-        Binary::Release => true,
-    }
+    o == Binary::Release
 }
 
 // The table of the worlds ahead: an unknown, or a constant in the closing world.
@@ -119,7 +109,8 @@ fn inner_number(carried: bool, own: usize) -> usize
     if carried { own + 1 } else { own }
 }
 
-// How a formula counts among the parts: whether it is one, the number of its own unknown, and that of the first part inside.
+// How a formula counts among the parts: whether it is one, the number of its own unknown, and that of the first part
+// inside.
 #[derive(Clone, Copy)]
 struct Numbering {
     part: bool,
@@ -196,20 +187,21 @@ fn leaf(tables: &mut [u64; MOST_PARTS], truth: bool, next: usize, under: bool, n
     keep(tables, under, n, v)
 }
 
-// The formula at a position, and the tables of its carried parts; `under` says that it is the operand of a next, n numbers the first part.
+// The formula at a position, and the tables of its carried parts; `under` says that it is the operand of a next, n numbers
+// the first part.
 fn evaluate(
     s: &[u8],
     at: usize,
-    m: Moment,
+    m: &Moment,
     under: bool,
     n: usize,
     tables: &mut [u64; MOST_PARTS],
 ) -> Value
     requires { Few (parsed 64 64 s.now at) under n }
-    ensures { (result ≡ evaluated m.closing (valuation_of m) (parsed 64 64 s.now at) at under n)
-        × (tables.new ≡ filled_by m.closing (valuation_of m) (parsed 64 64 s.now at) at under n tables.old) }
+    ensures { (result ≡ evaluated m.now.closing (valuation_of m.now) (parsed 64 64 s.now at) at under n)
+        × (tables.new ≡ filled_by m.now.closing (valuation_of m.now) (parsed 64 64 s.now at) at under n tables.old) }
 {
-    let code = formula::code_of(s[at]);
+    let code = Code::from(s[at]);
     let b = at + 1;
     match code {
         Code::Leaf(c) => leaf(tables, truth_of(c, m.closing), b, under, n),
@@ -220,10 +212,10 @@ fn evaluate(
             under,
             n,
         ),
-        Code::Action => leaf(tables, m.action == s[b], b + 1, under, n),
+        Code::Action => leaf(tables, m.action == Some(s[b]), b + 1, under, n),
         Code::One(o) => {
             let k = numbers_of(code, under, n);
-            let p = evaluate(s, b, m, formula::is_next(o), k.inner, tables);
+            let p = evaluate(s, b, m, o == Unary::Next, k.inner, tables);
             keep(tables, k.part, n, with_one(o, p, k.own, m.closing))
         }
         Code::Two(o) => {
@@ -236,47 +228,49 @@ fn evaluate(
     }
 }
 
-// What a formula leaves after the first world, in which no action was made.
-pub fn first(s: &[u8], state: u64) -> u64
-    requires { Ready s.now (parsed 64 64 s.now 0) }
-    ensures { result ≡ residual_of (parsed 64 64 s.now 0) (record { state = state; made = none }) }
-{
-    let mut tables = [0u64; MOST_PARTS];
-    let m = Moment {
-        truths: facts::read(s, state),
-        action: 255,
-        closing: false,
-    };
-    let v = evaluate(s, 0, m, false, 0, &mut tables);
-    v.table
+// The formula's own table in a world, and the tables of its carried parts.
+#[derive(Clone, Copy)]
+struct Tables {
+    own: u64,
+    parts: [u64; MOST_PARTS],
 }
 
-// What a residual leaves after a world.
-pub fn next(s: &[u8], r: u64, state: u64, action: u8) -> u64
-    requires { Ready s.now (parsed 64 64 s.now 0) × (action < 64) }
-    ensures { result ≡ progressed_of (parsed 64 64 s.now 0) r (record { state = state; made = some action }) }
+// The tables of a formula in a world.
+fn tables_in(s: &[u8], state: u64, action: Option<u8>, closing: bool) -> Tables
+    requires { Ready s.now (parsed 64 64 s.now 0) }
+    ensures { IsTables (parsed 64 64 s.now 0) (record { state = state; made = action }) closing result }
 {
-    let mut tables = [0u64; MOST_PARTS];
+    let mut parts = [0; MOST_PARTS];
     let m = Moment {
         truths: facts::read(s, state),
         action,
-        closing: false,
+        closing,
     };
-    evaluate(s, 0, m, false, 0, &mut tables);
-    bits::substitute(r, tables)
+    let own = evaluate(s, 0, &m, false, 0, &mut parts).table;
+    Tables { own, parts }
+}
+
+// What a formula leaves after the first world, in which no action was made.
+pub fn first(s: &[u8], state: u64) -> u64
+    requires { Ready s.now (parsed 64 64 s.now 0) }
+    ensures { result ≡ residual_of (parsed 64 64 s.now 0) (record { state = state; made = None }) }
+{
+    tables_in(s, state, None, false).own
+}
+
+// What a residual leaves after a world.
+pub fn next(s: &[u8], r: u64, state: u64, action: Option<u8>) -> u64
+    requires { Ready s.now (parsed 64 64 s.now 0) }
+    ensures { result ≡ progressed_of (parsed 64 64 s.now 0) r (record { state = state; made = action }) }
+{
+    bits::substitute(r, tables_in(s, state, action, false).parts)
 }
 
 // Whether a residual is true of the closing world.
 pub fn closing(s: &[u8], r: u64, state: u64) -> bool
     requires { Ready s.now (parsed 64 64 s.now 0) }
-    ensures { result ≡ closing_of (parsed 64 64 s.now 0) r (record { state = state; made = none }) }
+    ensures { result ≡ closing_of (parsed 64 64 s.now 0) r (record { state = state; made = None }) }
 {
-    let mut tables = [0u64; MOST_PARTS];
-    let m = Moment {
-        truths: facts::read(s, state),
-        action: 255,
-        closing: true,
-    };
-    evaluate(s, 0, m, false, 0, &mut tables);
-    bits::bit_at(bits::substitute(r, tables), 0)
+    let table = bits::substitute(r, tables_in(s, state, None, true).parts);
+    bits::bit_at(table, 0)
 }

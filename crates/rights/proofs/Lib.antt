@@ -1,3 +1,2 @@
--- What an accepted call says to its callers, and what the proofs of the usable steps use.
+-- What an accepted call says to its callers.
 pub mod AcceptedCalls
-pub mod StepBits

@@ -1,13 +1,13 @@
 -- What a call comes to before its search or its read-through.
-use Rattle.model.specs.declared.Verdict.TheVariants.{Fine, Bad}
-use Rattle.model.specs.calls.Call.{Call, call_verdict, usable_in}
-use Rattle.rights.specs.declared.Accepted.{Accepted}
-use Rattle.rights.specs.declared.Accepted.TheVariants.{Usable, Refused}
+use Rattle.std.specs.Prelude.{Result, Ok, Err}
+use Rattle.model.specs.Refusal.{Refusal}
+use Rattle.model.specs.search.Query.{Query}
+use Rattle.model.specs.calls.Call.{Call, call_verdict, asked}
 
--- the first refusal of the job or of the list of needed rights, or the steps that the caller may use
-unfoldable pub accepted : Call → Accepted
+-- the first refusal of the job or of the list of needed rights, or what is asked
+unfoldable pub accepted : Call → Result Query Refusal
 unfolding call_verdict
 accepted c = elim (call_verdict c) [
-  | Bad r ↦ Refused r
-  | Fine ↦ Usable (usable_in c)
+  | Err r ↦ Err r
+  | Ok _ ↦ Ok (asked c)
 ]

@@ -1,6 +1,6 @@
 -- What a search gives back, for its result in a table.
 use Rattle.std.specs.Prelude.{◌≡◌, Bool, true, false, List, ℕ}
-use Rattle.model.specs.declared.Searched.{Searched}
+use Rattle.model.specs.Results.{Searched}
 use Rattle.model.specs.calls.Search as calls
 use Rattle.model.specs.calls.Search.{SearchEnd, search_end, cleared, too_small_end}
 use Rattle.model.specs.exploration.Equations.{plan}

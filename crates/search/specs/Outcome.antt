@@ -1,71 +1,79 @@
--- What a search in a table comes to, turn by turn, as the table's bytes hold it.
-use Rattle.std.specs.Prelude.{◌≡◌, false, List, ℕ, suc, ◌*◌, ◌≤◌, ◌<◌, length, set}
-use Rattle.std.proofs.Math.Option.{none, some}
+-- What a search in a table comes to, turn by turn.
+use Rattle.std.specs.Prelude.{◌≡◌, false, None, Some, Result, Ok, Err, [], List, ℕ, suc, ◌≤◌, ◌<◌, length, Option}
+use Rattle.model.specs.Verdict.{no_refusal}
+use Rattle.model.specs.declared.Reason.{Reason}
+use Rattle.model.specs.declared.Reason.TheVariants.{TableTooSmall, NoPlanCut, NoPlan}
 use Rattle.model.specs.exploration.Key.{zero_key}
 use Rattle.model.specs.exploration.Equations.{plan, no_plan}
-use Rattle.model.specs.declared.Verdict.TheVariants.{Fine}
 use Rattle.model.specs.job.Decoding.{job_verdict}
 use Rattle.model.specs.job.Layout.{constraint_count, job_of}
 use Rattle.model.specs.search.Node.{Node}
 use Rattle.model.specs.search.JobSystem.{start_hints}
 use Rattle.model.specs.search.Query.{Query}
-use Rattle.model.specs.calls.Search.{slot_bytes}
 use Rattle.astar.specs.Records.{HeldOf, least_open}
-use Rattle.astar.specs.Search.{Result, answered, too_small, first_goal, turns}
+use Rattle.astar.specs.Search as astar
+use Rattle.astar.specs.Search.{answered, too_small, first_goal, turns}
 use Rattle.table.specs.declared.Slot.{Slot}
-use Rattle.table.specs.Slots.{slots, slot_at}
+use Rattle.table.specs.Slots.{slot_in}
 use Rattle.table.specs.Lookup.{rank_at}
+use Rattle.table.specs.Tables.{Table, pushed}
 use Rattle.nodes.specs.Meaning.{Clean}
-use Rattle.paths.specs.Chain.{held, steps_at, slot_path, Chained}
+use Rattle.paths.specs.Chain.{steps_at, slot_path, Chained}
 use Rattle.held.specs.Held.{sys, node_for, held_in, HasEstimate}
 use Rattle.held.specs.Running.{Idle}
 use Rattle.expansion.specs.Arrivals.{Makes}
-use Rattle.search.specs.declared.Ended.{Ended}
-use Rattle.search.specs.declared.Ended.TheVariants as ended
-use Rattle.search.specs.declared.Turn.{Turn}
-use Rattle.search.specs.declared.Turn.TheVariants.{On, End}
 
--- A table's bytes and what the code says of them are this result. A goal's path can be followed from slot to slot.
-abbrev pub EndsAs : List ℕ → Ended → Result → Type 0
-EndsAs t (ended.Goal g n) res =
-    (n * slot_bytes ≤ length t) × Chained (held t n) × (g < n)
-    × (res ≡ answered (plan (slot_at t g).cost (slot_path (held t n) (steps_at (held t n) g) g)))
-EndsAs t (ended.NoPlan k) res = res ≡ answered (no_plan k)
-EndsAs t ended.Full res = res ≡ too_small
+-- what the code says of a search: the slot of the answer, or why there is none
+abbrev pub Ended : Type 0
+Ended = Result ℕ Reason
 
--- One turn from a table t with n slots in use: it goes on with m in u, or it ends.
-abbrev pub Turned : Query → ℕ → ℕ → List ℕ → List ℕ → Turn → Type 0
-Turned job places n t u (On m) =
-    Idle job places m u × ((k : ℕ) → turns (sys job) places (suc k) (held_in job.bytes n t) ≡ turns (sys job) places k (held_in job.bytes m u))
-Turned job places n t u (End e) = (k : ℕ) → EndsAs u e (turns (sys job) places (suc k) (held_in job.bytes n t))
+-- The reason is that of this result.
+abbrev pub EndsFor : Reason → astar.Result → Type 0
+EndsFor TableTooSmall res = res ≡ too_small
+EndsFor NoPlanCut res = res ≡ answered (no_plan 11)
+EndsFor NoPlan res = res ≡ answered (no_plan 12)
+EndsFor _ res = ⊥
+
+-- A table's slots and what the code says of them are this result. A goal's path can be followed from slot to slot.
+abbrev pub EndsAs : Table → Ended → astar.Result → Type 0
+EndsAs t (Ok g) res =
+    Chained t.slots × (g < length t.slots) × (res ≡ answered (plan (slot_in t.slots g).cost (slot_path t.slots (steps_at t.slots g) g)))
+EndsAs t (Err r) res = EndsFor r res
+
+-- One turn from a table t: it goes on with u, or it ends.
+abbrev pub Turned : Query → Table → Table → Option Ended → Type 0
+Turned job t u None =
+    Idle job u × (u.room ≡ t.room)
+    × ((k : ℕ) → turns (sys job) t.room (suc k) (held_in job.bytes t.slots) ≡ turns (sys job) t.room k (held_in job.bytes u.slots))
+Turned job t u (Some e) = (k : ℕ) → EndsAs u e (turns (sys job) t.room (suc k) (held_in job.bytes t.slots))
 
 -- Slot i is the open one of the least rank.
-pub record Least (job : Query) (n : ℕ) (t : List ℕ) (i : ℕ) : Type 0 where
-  pub inside : i < n
-  pub least : least_open (sys job) (held_in job.bytes n t) 0 ≡ some (record { slot = i; rank = rank_at (slot_at t i) })
+pub record Least (job : Query) (t : Table) (i : ℕ) : Type 0 where
+  pub inside : i < length t.slots
+  pub least : least_open (sys job) (held_in job.bytes t.slots) 0 ≡ Some (record { slot = i; rank = rank_at (slot_in t.slots i) })
 
 -- No goal has its rank as its key, so it is taken.
-pub record Taking (job : Query) (places n : ℕ) (t : List ℕ) (i : ℕ) : Type 0 where
-  pub idle : Idle job places n t
-  pub chosen : Least job n t i
-  pub no_goal : first_goal (sys job) (held_in job.bytes n t) (rank_at (slot_at t i)) (held_in job.bytes n t) 0 ≡ none
+pub record Taking (job : Query) (t : Table) (i : ℕ) : Type 0 where
+  pub idle : Idle job t
+  pub chosen : Least job t i
+  pub no_goal : first_goal (sys job) (held_in job.bytes t.slots) (rank_at (slot_in t.slots i)) (held_in job.bytes t.slots) 0 ≡ None
 
--- A search of an accepted job can begin: its start node, of that array, is reached with that estimate, and there is a slot for it.
-pub record Starts (job : Query) (places : ℕ) (node : List ℕ) (estimate : ℕ) (t : List ℕ) : Type 0 where
-  pub accepted : job_verdict job.bytes ≡ Fine
-  pub starts : (sys job).start ≡ some (node_for job.bytes node)
+-- A search of an accepted job can begin in an empty table: its start node, of that array, is reached with that estimate, and there is a slot for it.
+pub record Starts (job : Query) (node : List ℕ) (estimate : ℕ) (t : Table) : Type 0 where
+  pub accepted : job_verdict job.bytes ≡ no_refusal
+  pub starts : (sys job).start ≡ Some (node_for job.bytes node)
   pub estimated : HasEstimate job node estimate
   pub clean : Clean (constraint_count job.bytes) node
-  pub some_place : 0 < places
-  pub room : places * slot_bytes ≤ length t
-  pub most : places ≤ 65536
+  pub empty : t.slots ≡ []
+  pub some_room : 0 < t.room
+  pub most : t.room ≤ 65536
 
 -- the record of a start node
 abbrev pub start_record : List ℕ → List ℕ → HeldOf Node (List ℕ)
 start_record job node = record { node = node_for job node; key = zero_key; hints = start_hints (job_of job); parent = 0; action = 0; taken = false }
 
--- A slot of the start node, with its estimate, was stored as slot 0.
-pub record Begun (job node : List ℕ) (estimate : ℕ) (t after : List ℕ) : Type 0 where
+-- A slot of the start node, with its estimate, was stored as the first.
+pub record Begun (job node : List ℕ) (estimate : ℕ) (t after : Table) : Type 0 where
   pub slot : Slot
   pub makes : Makes job (start_record job node) estimate slot
-  pub stored : slots after ≡ set (slots t) 0 slot
+  pub stored : after ≡ pushed t slot

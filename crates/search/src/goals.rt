@@ -1,87 +1,68 @@
 // The goals of a key: the one whose path comes first. And whether any node was cut.
-ghost use Rattle.std.specs.Prelude.{◌≡◌, ◌+◌, ◌*◌, ◌≤◌, ◌<◌, length};
-ghost use Rattle.model.specs.declared.Verdict.TheVariants.{Fine};
-ghost use Rattle.model.specs.job.Decoding.{job_verdict};
-ghost use Rattle.model.specs.calls.Search.{slot_bytes};
-ghost use Rattle.table.specs.Slots.{slot_at};
-ghost use Rattle.paths.specs.Chain.{held, Chained};
-ghost use Rattle.search.specs.GoalSlots.{slot_cut, any_cut, due, chosen, first_due, Behind};
+ghost use Rattle.std.specs.Prelude.{◌≡◌, ◌+◌, ◌<◌, length};
+ghost use Rattle.table.specs.Slots.{slot_in};
+ghost use Rattle.task.specs.Meaning.{key_is};
+ghost use Rattle.paths.specs.Chain.{Chained};
+ghost use Rattle.search.specs.GoalSlots.{slot_cut, any_cut, due, chosen, first_due, After};
 
-use table::{Found, slots};
+use job::Job;
+use table::Table;
+use task::Key;
 
 // Whether the slot i is an uncut goal of a key. Most slots are no goal, or have another key, which one word tells.
-fn is_due(job: &[u8], t: &[u8], i: usize, cost: u64, steps: u64) -> bool
-    requires { (job_verdict job.now ≡ Fine) × (i * slot_bytes + slot_bytes ≤ length t.now) }
-    ensures { result ≡ due job.now cost steps (slot_at t.now i) }
+#[tactic(auto, using(task::proofs::KeyLaws::eq_is_same), unfolding(crate::specs::GoalSlots::due))]
+fn is_due(job: &Job, t: &Table, i: usize, key: Key) -> bool
+    requires { i < length t.now.slots }
+    ensures { result ≡ due job.now (key_is key) (slot_in t.now.slots i) }
 {
-    if !slots::is_goal(t, i) {
-        return false;
-    }
-    if slots::cost(t, i) != cost {
-        return false;
-    }
-    if slots::steps(t, i) != steps {
-        return false;
-    }
-    let hints = slots::load(t, i).hints;
-    !nodes::is_cut(job, hints)
+    t.is_goal(i) && t.key(i) == key && !slot_cut(job, t, i)
 }
 
 // Of the slot i, if it is due, and the one found after it, the one whose path comes first.
-fn choose(job: &[u8], t: &[u8], n: usize, found: Found, i: usize, cost: u64, steps: u64) -> Found
-    requires { (job_verdict job.now ≡ Fine) × (n * slot_bytes ≤ length t.now) × (i < n) × Chained (held t.now n)
-        × Behind (held t.now n) (i + 1) cost steps found }
-    ensures { result ≡ chosen (held t.now n) (due job.now cost steps (slot_at t.now i)) i found }
+#[tactic(auto, using(crate::proofs::GoalLaws::comparable), unfolding(crate::specs::GoalSlots::chosen))]
+fn choose(job: &Job, t: &Table, found: Option<usize>, i: usize, key: Key) -> Option<usize>
+    requires { (i < length t.now.slots) × Chained t.now.slots × After t.now.slots (i + 1) (key_is key) found }
+    ensures { result ≡ chosen t.now.slots (due job.now (key_is key) (slot_in t.now.slots i)) i found }
 {
-    if !is_due(job, t, i, cost, steps) {
+    if !is_due(job, t, i, key) {
         return found;
     }
     match found {
-        Found::Nothing => Found::At(i),
-        Found::At(b) => {
-            if paths::before(t, n, b, i) {
-                Found::At(b)
-            } else {
-                Found::At(i)
-            }
-        }
+        Some(b) if paths::before(t, b, i) => Some(b),
+        _ => Some(i),
     }
 }
 
-// The uncut goal of a key whose path comes first, of n slots.
-pub fn first_goal(job: &[u8], t: &[u8], n: usize, cost: u64, steps: u64) -> Found
-    requires { (job_verdict job.now ≡ Fine) × (n * slot_bytes ≤ length t.now) × Chained (held t.now n) }
-    ensures { result ≡ first_due job.now cost steps (held t.now n) (held t.now n) 0 }
+// The uncut goal of a key whose path comes first.
+pub fn first_goal(job: &Job, t: &Table, key: Key) -> Option<usize>
+    requires { Chained t.now.slots }
+    ensures { result ≡ first_due job.now (key_is key) t.now.slots t.now.slots 0 }
 {
-    let mut found = Found::Nothing;
-    let mut i = n;
-    while i > 0 {
-        i -= 1;
-        found = choose(job, t, n, found, i, cost, steps);
+    let mut found = None;
+    for i in (0..t.len()).rev() {
+        found = choose(job, t, found, i, key);
     }
     found
 }
 
 // Whether the node of the slot i is cut.
-pub fn slot_cut(job: &[u8], t: &[u8], i: usize) -> bool
-    requires { (job_verdict job.now ≡ Fine) × (i * slot_bytes + slot_bytes ≤ length t.now) }
-    ensures { result ≡ slot_cut job.now (slot_at t.now i) }
+#[tactic(auto, unfolding(crate::specs::GoalSlots::slot_cut))]
+pub fn slot_cut(job: &Job, t: &Table, i: usize) -> bool
+    requires { i < length t.now.slots }
+    ensures { result ≡ slot_cut job.now (slot_in t.now.slots i) }
 {
-    let hints = slots::load(t, i).hints;
-    nodes::is_cut(job, hints)
+    nodes::is_cut(job, t.load(i).hints)
 }
 
-// Whether any of n slots is cut.
-pub fn some_cut(job: &[u8], t: &[u8], n: usize) -> bool
-    requires { (job_verdict job.now ≡ Fine) × (n * slot_bytes ≤ length t.now) }
-    ensures { result ≡ any_cut job.now (held t.now n) }
+// Whether any slot is cut.
+#[tactic(auto, using(crate::proofs::GoalLaws::cut_laws))]
+pub fn some_cut(job: &Job, t: &Table) -> bool
+    ensures { result ≡ any_cut job.now t.now.slots }
 {
-    let mut i = 0;
-    while i < n {
+    for i in 0..t.len() {
         if slot_cut(job, t, i) {
             return true;
         }
-        i += 1;
     }
     false
 }

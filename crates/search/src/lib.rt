@@ -1,9 +1,9 @@
-// The search on the bytes of a job, in a table of slots that the caller lends.
+// The search for a job's plan, on bytes that a caller lends.
 #![tactic(auto)]
 
-mod goals; // goals.rt: the goals of a key, and cut nodes
-mod turns; // turns.rt: one turn of the search, and all of them
-mod start; // start.rt: the start node, and the search from it
+mod goals; // goals.rt: the goals of a key, and whether a node was cut
+mod turns; // turns.rt: the turns of the search
+mod start; // start.rt: the start node, and the workspace
 mod result; // result.rt: what is handed back to the caller
 
 ghost use Rattle.std.specs.Prelude.{◌≡◌};
@@ -12,65 +12,67 @@ ghost use Rattle.model.specs.calls.Search.{search_end, SearchEnds};
 ghost use Rattle.model.specs.calls.Numbers.{search_numbers, PartGiven};
 ghost use Rattle.search.specs.Given.{runs_out};
 
-use model::Searched;
-use rights::Accepted;
-use table::slots;
+use model::{Planned, Reason, Refusal};
 
-// What a search in a table comes to: the slot of the answer and how many slots are in use; the number of a refusal, 11 or 12; or that the
-// table is full.
-#[derive(Clone, Copy)]
-enum Ended {
-    Goal(usize, usize),
-    NoPlan(u8),
-    Full,
-}
-
-// What one turn comes to: so many slots are in use, or the search ends.
-#[derive(Clone, Copy)]
-enum Turn {
-    On(usize),
-    End(Ended),
-}
+// What a search in a table comes to: the slot of the answer; or that the table is too small, or that there is no plan.
+type Ended = Result<usize, Reason>;
 
 // Searches for the job's plan by the steps that the caller may use, and writes it to the front of the plan buffer. Bytes that are no job, and a list of
 // needed rights of another length, are refused with nothing touched; on every other way out each byte of the table is zero.
-pub fn search(job: &[u8], needs: &[u8], rights: u8, table: &mut [u8], plan: &mut [u8]) -> Searched
+pub fn search(
+    job: &[u8],
+    needs: &[u8],
+    rights: u8,
+    table: &mut [u8],
+    plan: &mut [u8],
+) -> Result<Planned, Refusal>
     ensures { SearchEnds runs_out (call job.now needs.now rights) table.old plan.old
         (search_end result table.new plan.new) }
 {
-    match rights::accept(job, needs, rights) {
-        Accepted::Refused(r) => Searched::Refused(r),
-        Accepted::Usable(usable) => {
-            let r = result::answer(job, usable, table, plan);
-            slots::clear(table);
-            r
-        }
-    }
+    let query = rights::accept(job, needs, rights)?;
+    let end = result::answer(&query, table, plan);
+    table::clear(table);
+    end
 }
 
-// The result of a search as three numbers: 0, the cost and the number of steps, or a refusal's number, its place and 0.
-pub fn numbers(end: Searched) -> [u64; 3]
+// The result of a search as three numbers for C: 0, the cost and the number of steps, or a refusal's number, its place and 0.
+#[tactic(auto, unfolding(model::specs::calls::Numbers::search_numbers))]
+pub fn numbers(end: Result<Planned, Refusal>) -> [u64; 3]
     ensures { result ≡ search_numbers end }
 {
     match end {
-        Searched::Planned(cost, steps) => [0, cost, steps as u64],
-        Searched::Refused(refusal) => [words::wide(refusal.number), refusal.place as u64, 0],
+        Ok(plan) => [0, plan.cost, plan.steps as u64],
+        Err(refusal) => [u64::from(refusal.number()), refusal.place() as u64, 0],
     }
 }
 
-// The same search, with its result as three numbers. The front part of the plan buffer that holds the steps is handed back, empty on a refusal.
+// What a search gives, and the front part of the plan buffer that holds the steps. The part is there on a refusal, too, and empty: that is asked for
+// (docs/DECISIONS.md).
+#[derive(Drop)]
+pub struct Given<'a> {
+    pub result: Result<Planned, Refusal>,
+    pub steps: &'a mut [u8],
+}
+
+// The same search, which hands the steps back.
 pub fn planned<'a>(
     job: &[u8],
     needs: &[u8],
     rights: u8,
     table: &mut [u8],
     plan: &'a mut [u8],
-    out: &mut [u64; 3],
-) -> &'a mut [u8]
-    ensures { PartGiven runs_out (call job.now needs.now rights) table.old plan.old table.new
-        result.now out.new × (result.ref_ptr ≡ plan.entry.ref_ptr) }
+) -> Given<'a>
+    ensures { PartGiven runs_out (call job.now needs.now rights) table.old plan.entry.now table.new result.steps.now result.result
+        × (result.steps.ref_ptr ≡ plan.entry.ref_ptr) }
 {
-    let told = numbers(search(job, needs, rights, table, plan));
-    *out = told;
-    &mut plan[..told[2] as usize]
+    match search(job, needs, rights, table, plan) {
+        Ok(found) => Given {
+            result: Ok(found),
+            steps: &mut plan[..found.steps],
+        },
+        Err(refusal) => Given {
+            result: Err(refusal),
+            steps: &mut plan[..0],
+        },
+    }
 }

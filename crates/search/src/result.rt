@@ -1,48 +1,42 @@
 // What a search hands back to its caller: the plan with its cost and length, or a refusal.
-ghost use Rattle.std.specs.Prelude.{◌≡◌, ◌*◌, ◌≤◌, ◌<◌, length};
-ghost use Rattle.model.specs.declared.Verdict.TheVariants.{Fine};
-ghost use Rattle.model.specs.calls.Search.{search_end, slots_in, cleared, slot_bytes};
-ghost use Rattle.model.specs.job.Decoding.{job_verdict};
-ghost use Rattle.model.specs.search.Query.{query};
+ghost use Rattle.std.specs.Prelude.{◌≡◌, ◌<◌, length};
+ghost use Rattle.model.specs.calls.Search.{search_end, slots_in, cleared};
 ghost use Rattle.astar.specs.Search.{search_in};
-ghost use Rattle.table.specs.Slots.{slot_at};
-ghost use Rattle.paths.specs.Chain.{held, steps_at, slot_path, Chained};
+ghost use Rattle.table.specs.Slots.{slot_in};
+ghost use Rattle.paths.specs.Chain.{steps_at, slot_path, Chained};
 ghost use Rattle.held.specs.Held.{sys};
 ghost use Rattle.search.specs.Given.{end_of, HandsOver};
 
-use super::{Ended, start};
-use model::{Refusal, Searched};
-use table::slots;
+use super::start;
+use job::Query;
+use model::{Planned, Reason, Refusal};
+use table::Table;
 
 // Writes the path of slot g to the plan buffer, unless that is shorter.
-fn hand_over(t: &[u8], n: usize, g: usize, plan: &mut [u8]) -> Searched
-    requires { (n * slot_bytes ≤ length t.now) × Chained (held t.now n) × (g < n) }
-    ensures { HandsOver (slot_at t.now g).cost (slot_path (held t.now n) (steps_at (held t.now n) g) g)
+fn hand_over(t: &Table, g: usize, plan: &mut [u8]) -> Result<Planned, Refusal>
+    requires { Chained t.now.slots × (g < length t.now.slots) }
+    ensures { HandsOver (slot_in t.now.slots g).cost (slot_path t.now.slots (steps_at t.now.slots g) g)
         plan.old result plan.new }
 {
-    let steps = slots::steps(t, g) as usize;
+    let key = t.key(g);
+    let steps = key.steps as usize;
     if plan.len() < steps {
-        return Searched::Refused(Refusal {
-            number: 13,
-            place: steps,
-        });
+        return Err(Refusal::new(Reason::BufferTooShort, steps));
     }
-    paths::write(t, n, g, plan);
-    Searched::Planned(slots::cost(t, g), steps)
+    paths::write(t, g, plan);
+    Ok(Planned {
+        cost: key.cost,
+        steps,
+    })
 }
 
-// The answer to an accepted job, by the actions that the caller may use. The table is left as the search used it.
-pub fn answer(job: &[u8], usable: u64, table: &mut [u8], plan: &mut [u8]) -> Searched
-    requires { job_verdict job.now ≡ Fine }
-    ensures { search_end result (cleared table.old) plan.new
-        ≡ end_of (search_in (sys (query job.now usable)) (slots_in table.old)) table.old plan.old }
+// The answer to what is asked. The table's bytes are left as the search used them.
+pub fn answer(q: &Query, bytes: &mut [u8], plan: &mut [u8]) -> Result<Planned, Refusal>
+    ensures { search_end result (cleared bytes.old) plan.new ≡ end_of (search_in (sys q.now) (slots_in bytes.old)) bytes.old plan.old }
 {
-    match start::searched(job, usable, table) {
-        Ended::Goal(g, n) => hand_over(table, n, g, plan),
-        Ended::NoPlan(number) => Searched::Refused(Refusal { number, place: 0 }),
-        Ended::Full => Searched::Refused(Refusal {
-            number: 10,
-            place: 0,
-        }),
+    let mut table = Table::new(bytes);
+    match start::searched(q, &mut table) {
+        Ok(g) => hand_over(&table, g, plan),
+        Err(reason) => Err(Refusal::new(reason, 0)),
     }
 }

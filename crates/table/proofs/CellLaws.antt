@@ -1,14 +1,8 @@
 -- Laws of words and rows in bytes: what is read after a write.
-use mathlib.Core.Path.{◌≡◌, refl, sym, ◌∙◌}
-use mathlib.Core.Logic.{◌≢◌, ⊎_elim}
-use mathlib.Core.List.{List, [], ◌∷◌, ◌++◌}
-use Prim.Native.Nat.{ℕ, zero, suc, ◌+◌, ◌*◌, ◌-◌, ◌^◌, ◌≤◌, ◌<◌}
-use native.Mathlib.Nat.{not-suc-le-zero, le_of_suc-le-suc, eq-or-lt_of_le}
-use native.Mathlib.Numerals.{add-one}
-use native.Mathlib.Omega.{arith}
-use native.Mathlib.Decide.{dec_lt}
-use lib.ListN.{length, get_or, set, drop}
-use lib.Seq.{sets, length-sets, drop-set-lt, drop-set-add, drop-cons, set_at, append_snoc, ext_get_or}
+use Rattle.std.proofs.Common.{◌≡◌, refl, sym, ◌∙◌, ◌≢◌, ⊎_elim, List, [], ◌∷◌, ◌++◌, ℕ, zero, suc, ◌+◌, ◌*◌, ◌-◌, ◌^◌, ◌≤◌, ◌<◌, not-suc-le-zero}
+use Rattle.std.proofs.Common.{le_of_suc-le-suc, eq-or-lt_of_le, add-one, arith, length, get_or, set, drop, drop-set-lt, drop-cons, ext_get_or}
+use Rattle.std.proofs.Math.Decide.{dec_lt}
+use lib.Seq.{sets, length-sets, drop-set-add, set_at, append_snoc}
 use Rattle.model.specs.Bits.{number, number_at}
 use Rattle.model.specs.job.Job.{list_of}
 use Rattle.model.specs.calls.Search.{slot_bytes}
@@ -35,7 +29,8 @@ list_of_elements a n e =
 pub list_of_more : (f : ℕ → ℕ) (z a : List ℕ) (j v : ℕ) → a ≡ list_of f j ++ drop j z → v ≡ f j → j < length z → set a j v ≡ list_of f (j + 1) ++ drop (j + 1) z
 unfolding list_of
 list_of_more f z a j v e q h =
-    rw (e, q, add-one, drop-cons z j 0) (set_at (list_of f j) (get_or z j 0) (drop (suc j) z) (f j) j (length-list_of f j) ∙ sym (append_snoc (list_of f j) (f j) (drop (suc j) z)))
+    rw (e, q, add-one, drop-cons z j 0)
+    (set_at (list_of f j) (get_or z j 0) (drop (suc j) z) (f j) j (length-list_of f j) ∙ sym (append_snoc (list_of f j) (f j) (drop (suc j) z)))
 
 -- ---- a number in bytes, and a byte written beside it
 

@@ -3,3 +3,4 @@ pub mod CellLaws
 pub mod RowLaws
 pub mod SlotLaws
 pub mod LookupLaws
+pub mod TableLaws

@@ -1,25 +1,17 @@
 -- Laws of lookups in a list of slots, from its elements; and that what is found is in the list.
-use mathlib.Core.Path.{◌≡◌, sym, ◌∙◌}
-use mathlib.Core.Bool.{Bool, true, false}
-use mathlib.Core.List.{List, [], ◌∷◌}
-use Prim.Native.Nat.{ℕ, suc, ◌+◌, ◌*◌, ◌≤◌, ◌<◌}
-use native.Mathlib.Numerals.{add-one}
-use native.Mathlib.Omega.{arith}
-use lib.ListN.{length, get_or, length-take, take, drop, drop_of_length-le}
-use lib.Seq.{drop-cons, get_or-take, length-take-le}
-use borrow.Author.Tests.{eq-eqb, ne_eqb}
+use Rattle.std.proofs.Common.{Option, None, Some, IfSome, ap, zero-add, ◌≡◌, sym, ◌∙◌, Bool, true, false, List, [], ◌∷◌, ℕ, suc, ◌+◌, ◌*◌, ◌≤◌, ◌<◌, add-one}
+use Rattle.std.proofs.Common.{arith, length, get_or, take, drop, drop_of_length-le, drop-cons, get_or-take, length-take-le, eq-eqb, ne_eqb}
 use Rattle.model.specs.logic.Formula.{choose}
-use Rattle.model.specs.exploration.Key.{less}
+use Rattle.model.specs.exploration.Key.{Key, less}
 use Rattle.model.specs.search.Node.{same_numbers, node_words}
 use Rattle.model.specs.calls.Search.{slot_bytes}
+use Rattle.task.specs.declared.Key as code
+use Rattle.task.specs.Meaning.{key_is}
 use Rattle.table.specs.declared.Slot.{Slot}
-use Rattle.table.specs.declared.Found.{Found}
-use Rattle.table.specs.declared.Found.TheVariants.{At, Nothing}
-use Rattle.table.specs.declared.Best.{Best}
-use Rattle.table.specs.declared.Best.TheVariants.{Open, NoOpen}
+use Rattle.table.specs.declared.lookup.Candidate.{Candidate}
 use Rattle.table.specs.Cells.{word, row_words}
 use Rattle.table.specs.Slots.{slots, slot_at, no_slot}
-use Rattle.table.specs.Lookup.{find_in, key_of, rank_at, better, least_in, slot_of_best}
+use Rattle.table.specs.Lookup.{find_in, rank_at, candidate, better, least_in, slot_of_best}
 use Rattle.table.proofs.SlotLaws.{length-slots, length-node, node_word}
 
 -- ---- two lists of numbers, compared from the front
@@ -71,7 +63,7 @@ module _ (a : List ℕ) (ss : List Slot) (i : ℕ) where
   abbrev Rest : ℕ → Type 0
   Rest k = find_in a ss 0 ≡ find_in a (drop k ss) k
 
-  pub find_here : (s : Slot) → Rest i → get_or ss i no_slot ≡ s → true ≡ same_numbers a s.node → i < length ss → At i ≡ find_in a ss 0
+  pub find_here : (s : Slot) → Rest i → get_or ss i no_slot ≡ s → true ≡ same_numbers a s.node → i < length ss → Some i ≡ find_in a ss 0
   unfolding find_in
   find_here s r e q g = sym (r ∙ rw (drop-cons ss i no_slot g, e, ← q, find_in))
 
@@ -79,50 +71,52 @@ module _ (a : List ℕ) (ss : List Slot) (i : ℕ) where
   unfolding find_in
   find_on s r e q g = r ∙ rw (add-one i, drop-cons ss i no_slot g, e, ← q, find_in)
 
-  pub find_end : Rest i → length ss ≤ i → Nothing ≡ find_in a ss 0
+  pub find_end : Rest i → length ss ≤ i → None ≡ find_in a ss 0
   unfolding find_in
   find_end r g = sym (r ∙ rw (drop_of_length-le ss g))
 
 -- ---- the better of two
 
-pub better_taken : (s : Slot) (k : ℕ) (b : Best) → true ≡ s.taken → b ≡ better s k b
+pub better_taken : (s : Slot) (k : ℕ) (b : Option Candidate) → true ≡ s.taken → b ≡ better s k b
 unfolding better
-better_taken s k NoOpen q = rw (← q)
-better_taken s k (Open i c n) q = rw (← q)
+better_taken s k None q = rw (← q)
+better_taken s k (Some b) q = rw (← q)
 
-module _ (s : Slot) (k : ℕ) (b : Best) (q : false ≡ s.taken) (x y : ℕ) (ex : x ≡ s.cost + s.estimate) (ey : y ≡ s.steps) where
-  pub better_first : b ≡ NoOpen → Open k x y ≡ better s k b
-  unfolding better
-  better_first e = rw (e, ← q, ex, ey)
+-- an open slot s, whose rank is r
+module _ (s : Slot) (k : ℕ) (q : false ≡ s.taken) (r : code.Key) (e : key_is r ≡ rank_at s) where
+  candidate_is : Some (record { slot = k; rank = r }) ≡ Some (candidate s k)
+  candidate_is = ap (λ (z : Key). Some (record { slot = k; rank = record { cost = z.cost; steps = z.steps } })) e
 
-  pub better_behind : (i c n : ℕ) → b ≡ Open i c n → true ≡ less (key_of c n) (key_of x y) → Open i c n ≡ better s k b
+  pub better_first : Some (record { slot = k; rank = r }) ≡ better s k None
   unfolding better
-  better_behind i c n e l = rw (e, ← q, ← ex, ← ey, ← l)
+  better_first = rw (← q) candidate_is
 
-  pub better_here : (i c n : ℕ) → b ≡ Open i c n → false ≡ less (key_of c n) (key_of x y) → Open k x y ≡ better s k b
-  unfolding better
-  better_here i c n e l = rw (e, ← q, ← ex, ← ey, ← l)
+  module _ (b : Candidate) where
+    pub better_behind : true ≡ less (key_is b.rank) (key_is r) → Some b ≡ better s k (Some b)
+    unfolding better
+    better_behind l = rw (← q, ← e, ← l)
+
+    pub better_here : false ≡ less (key_is b.rank) (key_is r) → Some (record { slot = k; rank = r }) ≡ better s k (Some b)
+    unfolding better
+    better_here l = rw (← q) (rw (← e, ← l) candidate_is)
 
 -- ---- the least of the slots from i on
 
 module _ (ss : List Slot) where
-  pub least_none : (i : ℕ) → length ss ≤ i → NoOpen ≡ least_in (drop i ss) i
+  pub least_none : (i : ℕ) → length ss ≤ i → None ≡ least_in (drop i ss) i
   unfolding least_in
   least_none i g = rw (drop_of_length-le ss g)
 
-  pub least_more : (i k : ℕ) (s : Slot) (b r : Best) → b ≡ least_in (drop k ss) k → r ≡ better s i b → k ≡ suc i → get_or ss i no_slot ≡ s → i < length ss → r ≡ least_in (drop i ss) i
+  pub least_more : (i k : ℕ) (s : Slot) (b r : Option Candidate) → b ≡ least_in (drop k ss) k → r ≡ better s i b → k ≡ suc i
+      → get_or ss i no_slot ≡ s → i < length ss → r ≡ least_in (drop i ss) i
   unfolding least_in
   least_more i k s b r e q d f g = rw (q, e, d, drop-cons ss i no_slot g, f)
 
 -- ---- what is found is in the list
 
 -- what was found, if anything, is below n
-abbrev Below : ℕ → Found → Type 0
-Below n (At i) = i < n
-Below n Nothing = Unit {0}
-
-found_below : (f : Found) (n i : ℕ) → f ≡ At i → Below n f → i < n
-found_below f n i e h = rw e at h
+abbrev Below : ℕ → Option ℕ → Type 0
+Below n f = IfSome f (λ i. i < n)
 
 find_below : (a : List ℕ) (ss : List Slot) (k : ℕ) → Below (k + length ss) (find_in a ss k)
 unfolding find_in
@@ -132,20 +126,20 @@ find_below a (s ∷ ss) k = go (same_numbers a s.node) (rw e at (find_below a ss
     e : suc k + length ss ≡ k + suc (length ss)
     e = omega arith
 
-    go : (b : Bool) → Below (k + suc (length ss)) (find_in a ss (suc k)) → Below (k + suc (length ss)) (elim b [ true ↦ At k | false ↦ find_in a ss (suc k) ])
+    go : (b : Bool) → Below (k + suc (length ss)) (find_in a ss (suc k)) → Below (k + suc (length ss)) (elim b [ true ↦ Some k | false ↦ find_in a ss (suc k) ])
     go true h = omega arith
     go false h = h
 
-better_below : (s : Slot) (k n : ℕ) (b : Best) → k < n → Below n (slot_of_best b) → Below n (slot_of_best (better s k b))
+better_below : (s : Slot) (k n : ℕ) (b : Option Candidate) → k < n → Below n (slot_of_best b) → Below n (slot_of_best (better s k b))
 unfolding better slot_of_best
-better_below s k n NoOpen g h = go s.taken
+better_below s k n None g h = go s.taken
   where
-    go : (t : Bool) → Below n (slot_of_best (choose t NoOpen (Open k (s.cost + s.estimate) s.steps)))
+    go : (t : Bool) → Below n (slot_of_best (choose t None (Some (candidate s k))))
     go true = tt
     go false = g
-better_below s k n (Open i c m) g h = go s.taken (less (key_of c m) (rank_at s))
+better_below s k n (Some b) g h = go s.taken (less (key_is b.rank) (rank_at s))
   where
-    go : (t l : Bool) → Below n (slot_of_best (choose t (Open i c m) (choose l (Open i c m) (Open k (s.cost + s.estimate) s.steps))))
+    go : (t l : Bool) → Below n (slot_of_best (choose t (Some b) (choose l (Some b) (Some (candidate s k)))))
     go true l = h
     go false true = h
     go false false = g
@@ -157,16 +151,10 @@ least_below (s ∷ ss) k =
     let e : suc k + length ss ≡ k + suc (length ss) = omega arith in
     better_below s k (k + suc (length ss)) (least_in ss (suc k)) (omega arith) (rw e at (least_below ss (suc k)))
 
-length-take-most : (n : ℕ) (ss : List Slot) → 0 + length (take n ss) ≤ n
-length-take-most n ss = simp length-take (omega arith)
+-- What `find` and `least` answer is a slot of the list.
+module _ (ss : List Slot) (f : Option ℕ) (i : ℕ) (q : f ≡ Some i) where
+  pub find_inside : (a : List ℕ) → f ≡ find_in a ss 0 → i < length ss
+  find_inside a e = rw (zero-add, ← e, q) at (find_below a ss 0)
 
--- What `find` and `least` answer is below n.
-pub find_inside : (l a : List ℕ) (n i : ℕ) (f : Found) → f ≡ find_in a (take n (slots l)) 0 → f ≡ At i → i < n
-find_inside l a n i f e q =
-    let h = found_below (find_in a (take n (slots l)) 0) (0 + length (take n (slots l))) i (sym e ∙ q) (find_below a (take n (slots l)) 0) in
-    omega (arith, length-take-most n (slots l))
-
-pub least_inside : (l : List ℕ) (n i : ℕ) (f : Found) → f ≡ slot_of_best (least_in (take n (slots l)) 0) → f ≡ At i → i < n
-least_inside l n i f e q =
-    let h = found_below (slot_of_best (least_in (take n (slots l)) 0)) (0 + length (take n (slots l))) i (sym e ∙ q) (least_below (take n (slots l)) 0) in
-    omega (arith, length-take-most n (slots l))
+  pub least_inside : f ≡ slot_of_best (least_in ss 0) → i < length ss
+  least_inside e = rw (zero-add, ← e, q) at (least_below ss 0)

@@ -1,12 +1,6 @@
 -- Laws of a slot as a row of twenty words.
-use mathlib.Core.Path.{◌≡◌}
-use mathlib.Core.Logic.{◌≢◌}
-use mathlib.Core.Bool.{Bool, true, false}
-use mathlib.Core.List.{List}
-use Prim.Native.Nat.{ℕ, ◌+◌, ◌*◌, ◌/◌, ◌%◌, ◌<◌}
-use native.Mathlib.Omega.{arith}
-use lib.ListN.{length, get_or}
-use lib.Dec.{eqb}
+use Rattle.std.proofs.Common.{refl, ◌≡◌, ◌≢◌, Bool, true, false, List, ℕ, ◌+◌, ◌*◌, ◌/◌, ◌%◌, ◌<◌, arith, length, get_or, eqb}
+use Rattle.std.specs.Int.{from_bool}
 use Rattle.model.specs.Bits.{digit}
 use Rattle.model.specs.job.Job.{list_of}
 use Rattle.model.specs.search.Node.{node_words}
@@ -14,6 +8,13 @@ use Rattle.table.specs.declared.Slot.{Slot}
 use Rattle.table.specs.Slots.{slot_of, row_of, key_word, flag_word, taken_slot, Narrow}
 use Rattle.table.specs.Cells.{row_words}
 use Rattle.table.proofs.CellLaws.{list_of_elements, list_of_same}
+
+-- ---- bits as numbers
+
+pub byte_digit : (b : Bool) → from_bool b ≡ digit b
+unfolding digit
+byte_digit true = refl
+byte_digit false = refl
 
 -- ---- the parts of word 18: action, taken and goal are read as they were written
 

@@ -1,13 +1,7 @@
 -- Laws of the list of slots: its length, its elements, and how a row's change changes it.
-use mathlib.Core.Path.{◌≡◌, refl, sym, ap, ◌∙◌}
-use mathlib.Core.Logic.{◌≢◌}
-use mathlib.Core.List.{List}
-use Prim.Native.Nat.{ℕ, ◌+◌, ◌*◌, ◌/◌, ◌%◌, ◌^◌, ◌≤◌, ◌<◌}
-use native.Mathlib.Omega.{arith}
-use native.Mathlib.Decide.{ℕ_discrete}
-use lib.ListN.{length, get_or, set, length-set}
-use lib.Seq.{ext_get_or, get_or-set_same, get_or-set_other}
-use lib.Dec.{eqb}
+use Rattle.std.proofs.Common.{◌≡◌, refl, sym, ap, ◌∙◌, ◌≢◌, List, ℕ, ◌+◌, ◌*◌, ◌/◌, ◌%◌, ◌^◌, ◌≤◌, ◌<◌, arith, length, get_or, set, length-set, ext_get_or}
+use Rattle.std.proofs.Common.{get_or-set_same, get_or-set_other, eqb}
+use Rattle.std.proofs.Math.Decide.{ℕ_discrete}
 use Rattle.model.specs.calls.Search.{slot_bytes}
 use Rattle.model.specs.search.Node.{node_words}
 use Rattle.model.proofs.job.VerdictLaws.{get_or-list_of, length-list_of}
@@ -71,10 +65,6 @@ pub length-node : (l : List ℕ) (i : ℕ) → i * slot_bytes + slot_bytes ≤ l
 unfolding slot_of
 length-node l i h = rw (slot_at_lem l i h) (length-list_of (λ j. get_or (row l i) j 0) node_words)
 
-pub length-hints : (l : List ℕ) (i : ℕ) → i * slot_bytes + slot_bytes ≤ length l → length (slot_at l i).hints ≡ 8
-unfolding slot_of
-length-hints l i h = rw (slot_at_lem l i h) (length-list_of (λ j. get_or (row l i) (node_words + j) 0) 8)
-
 pub node_word : (l : List ℕ) (i j : ℕ) → j < node_words → i * slot_bytes + slot_bytes ≤ length l → get_or (slot_at l i).node j 0 ≡ word l (i * row_words + j)
 unfolding slot_of
 node_word l i j g h = rw (slot_at_lem l i h) (get_or-list_of (λ k. get_or (row l i) k 0) node_words j 0 g ∙ row_at l i j (omega arith))
@@ -86,10 +76,6 @@ slot_read l a i s e q h = (
   e ∙ ap slot_of q ∙ sym (slot_at_lem l i h),
   rw e (record { cost = omega arith; steps = omega arith; estimate = omega arith; parent = omega arith; action = omega arith }),
 )
-
--- A slot's numbers are within their widths.
-pub slot_narrow : (l : List ℕ) (i : ℕ) → i * slot_bytes + slot_bytes ≤ length l → Narrow (slot_at l i)
-slot_narrow l i h = (slot_read l (row l i) i (slot_at l i) (slot_at_lem l i h) refl h).1
 
 -- ---- one slot changed
 
@@ -116,7 +102,8 @@ slots_marked l t i v w ew et ev b h =
     (ap length et ∙ length-word l (i * row_words + 18) v) h
   where
     other : (m : ℕ) → m ≢ i → row t m ≡ row l m
-    other m d = row_words_lem l t m (λ j g. ap (λ (x : List ℕ). word x (m * row_words + j)) et ∙ word_other l (i * row_words + 18) (m * row_words + j) v (omega arith))
+    other m d =
+        row_words_lem l t m (λ j g. ap (λ (x : List ℕ). word x (m * row_words + j)) et ∙ word_other l (i * row_words + 18) (m * row_words + j) v (omega arith))
 
     beside : (j : ℕ) → j < row_words → j ≢ 18 → get_or (row t i) j 0 ≡ get_or (row l i) j 0
     beside j g d =
@@ -127,3 +114,6 @@ slots_marked l t i v w ew et ev b h =
     here =
         row_at t i 18 (omega arith) ∙ ap (λ (x : List ℕ). word x (i * row_words + 18)) et ∙ word_same l (i * row_words + 18) v b (omega arith) ∙ ev
         ∙ ap mark_word (ew ∙ sym (row_at l i 18 (omega arith)))
+
+-- What the functions on bytes need, found without an answer.
+pub ruleset in_rows = (slot_cost, slot_steps, slot_estimate, slot_parent, slot_action, slot_taken, slot_goal, slots_set, slots_marked)

@@ -2,3 +2,4 @@
 pub mod Cells
 pub mod Slots
 pub mod Lookup
+pub mod Tables

@@ -59,9 +59,13 @@ no_slot = record {
   goal = false;
 }
 
--- slot i
+-- slot i of a list
+abbrev pub slot_in : List Slot → ℕ → Slot
+slot_in ss i = get_or ss i no_slot
+
+-- slot i of the bytes
 abbrev pub slot_at : List ℕ → ℕ → Slot
-slot_at l i = get_or (slots l) i no_slot
+slot_at l i = slot_in (slots l) i
 
 -- a slot that is taken now
 unfoldable pub taken_slot : Slot → Slot

@@ -1,4 +1,6 @@
 // Words of 64 bits in bytes, and rows of them.
+#![tactic(auto, unfolding(crate::specs::Cells::word, crate::specs::Cells::with_word))]
+
 ghost use Rattle.std.specs.Prelude.{◌≡◌, ◌+◌, ◌*◌, ◌^◌, ◌≤◌, ◌<◌, length};
 ghost use Rattle.model.specs.calls.Search.{slot_bytes};
 ghost use Rattle.table.specs.Cells.{word, with_word, row, RowSet};
@@ -14,7 +16,7 @@ pub fn get(t: &[u8], k: usize) -> u64
     requires { k * 8 + 8 ≤ length t.now }
     ensures { result ≡ word t.now k }
 {
-    words::get64(t, k * 8)
+    words::get::<8>(t, k * 8)
 }
 
 // Sets the word k to v.
@@ -22,7 +24,7 @@ pub fn put(t: &mut [u8], k: usize, v: u64)
     requires { k * 8 + 8 ≤ length t.old }
     ensures { (v < 2 ^ 64) × (t.new ≡ with_word t.old k v) }
 {
-    words::put64(t, k * 8, v);
+    words::put::<8>(t, k * 8, v);
 }
 
 // The words of row i.
@@ -30,11 +32,9 @@ pub fn get_row(t: &[u8], i: usize) -> [u64; ROW]
     requires { i * slot_bytes + slot_bytes ≤ length t.now }
     ensures { result ≡ row t.now i }
 {
-    let mut a = [0u64; ROW];
-    let mut j = 0;
-    while j < ROW {
+    let mut a = [0; ROW];
+    for j in 0..ROW {
         a[j] = get(t, i * ROW + j);
-        j += 1;
     }
     a
 }
@@ -44,9 +44,7 @@ pub fn put_row(t: &mut [u8], i: usize, a: [u64; ROW])
     requires { i * slot_bytes + slot_bytes ≤ length t.old }
     ensures { RowSet t.old t.new i a }
 {
-    let mut j = 0;
-    while j < ROW {
+    for j in 0..ROW {
         put(t, i * ROW + j, a[j]);
-        j += 1;
     }
 }

@@ -1,38 +1,182 @@
 // A table of slots in bytes that a caller lends. Every operation is an equation on the list of its slots.
 #![tactic(auto)]
 
+ghost use Rattle.std.specs.Prelude.{◌≡◌, [], ◌≤◌, ◌<◌, length};
+ghost use Rattle.model.specs.calls.Search.{slots_in};
+ghost use Rattle.task.specs.Meaning.{key_is};
+
 use model::NODE;
+use std::marker::Model;
+use task::Key;
 
 mod cells; // cells.rt: words of 64 bits, and rows of them
 mod rows; // rows.rt: a slot as a row
-pub mod slots; // slots.rt: whole slots and their parts, read and written
-pub mod lookup; // lookup.rt: the slot of a node, and the open slot of the least rank
+pub mod slots; // slots.rt: whole slots and their parts, in bytes
+pub mod lookup; // lookup.rt: the slot of a node, and the open slot of the least rank, in bytes
+
+pub use slots::clear;
 
 // What a slot holds: a node, the state and then the residual of each constraint; the residuals of the hints; the key of the least path so
 // far; the estimate of the cost that is left; the slot and the action that it came from; whether it was taken, and whether it is a goal.
-#[derive(Clone, Copy)]
+#[derive(Clone, Copy, Debug, PartialEq, Eq)]
 pub struct Slot {
     pub node: [u64; NODE],
     pub hints: [u64; 8],
     pub cost: u64,
     pub steps: u64,
     pub estimate: u64,
-    pub parent: u64,
-    pub action: u64,
+    pub parent: usize,
+    pub action: u8,
     pub taken: bool,
     pub goal: bool,
 }
 
-// A slot's number, if there is one.
-#[derive(Clone, Copy)]
-pub enum Found {
-    At(usize),
-    Nothing,
+// The bytes, how many slots they have room for, and how many are in use. A clause sees the room and the list of the slots in use.
+#[derive(Drop)]
+pub struct Table<'a> {
+    bytes: &'a mut [u8],
+    room: usize,
+    used: usize,
 }
 
-// The best open slot so far with its rank, which is cost plus estimate, then steps, if there is one.
-#[derive(Clone, Copy)]
-pub enum Best {
-    Open(usize, u64, u64),
-    NoOpen,
+impl<'a> Model for Table<'a> {
+    ghost use Rattle.table.specs.Tables.{Table as Slotted};
+    ghost use Rattle.table.specs.Tables.{table_in, Within};
+
+    ghost Value = { Slotted };
+
+    ghost view = { λ t. table_in t.room t.used t.bytes.now };
+
+    ghost invariant = { λ t. Within t.room t.used t.bytes.now };
+}
+
+#[tactic(auto, using(crate::proofs::TableLaws::in_table))]
+impl<'a> Table<'a> {
+    ghost use Rattle.table.specs.Slots.{slot_in, Narrow};
+    ghost use Rattle.table.specs.Lookup.{find_in, key_of, rank_at, least_in, slot_of_best};
+    ghost use Rattle.table.specs.Tables.{table, pushed, stored, marked};
+
+    // A table in lent bytes, whatever they are, with no slot in use.
+    pub fn new(bytes: &'a mut [u8]) -> Table<'a>
+        ensures { result ≡ table (slots_in bytes.old) [] }
+    {
+        let room = slots::capacity(bytes);
+        Table {
+            bytes,
+            room,
+            used: 0,
+        }
+    }
+
+    // How many slots there is room for.
+    pub fn room(&self) -> usize
+        ensures { (result ≡ self.now.room) × (result ≤ 65536) }
+    {
+        self.room
+    }
+
+    // How many slots are in use.
+    pub fn len(&self) -> usize
+        ensures { (result ≡ length self.now.slots) × (result ≤ self.now.room) }
+    {
+        self.used
+    }
+
+    // The slot i.
+    pub fn load(&self, i: usize) -> Slot
+        requires { i < length self.now.slots }
+        ensures { (result ≡ slot_in self.now.slots i) × Narrow result }
+    {
+        slots::load(self.bytes, i)
+    }
+
+    // One slot more.
+    pub fn push(&mut self, s: Slot)
+        requires { (length self.old.slots < self.old.room) × Narrow s }
+        ensures { self.new ≡ pushed self.old s }
+    {
+        slots::store(self.bytes, self.used, s);
+        self.used += 1;
+    }
+
+    // Sets the slot i to s.
+    pub fn store(&mut self, i: usize, s: Slot)
+        requires { (i < length self.old.slots) × Narrow s }
+        ensures { self.new ≡ stored self.old i s }
+    {
+        slots::store(self.bytes, i, s);
+    }
+
+    // Marks the slot i as taken.
+    pub fn mark(&mut self, i: usize)
+        requires { i < length self.old.slots }
+        ensures { self.new ≡ marked self.old i }
+    {
+        slots::mark(self.bytes, i);
+    }
+
+    // The key of the least path so far to the node of the slot i.
+    pub fn key(&self, i: usize) -> Key
+        requires { i < length self.now.slots }
+        ensures { (key_is result ≡ key_of (slot_in self.now.slots i).cost (slot_in self.now.slots i).steps) × (result.steps < 65536) }
+    {
+        Key {
+            cost: slots::cost(self.bytes, i),
+            steps: slots::steps(self.bytes, i),
+        }
+    }
+
+    // The rank of the slot i: its cost plus its estimate, then its steps.
+    pub fn rank(&self, i: usize) -> Key
+        requires { i < length self.now.slots }
+        ensures { key_is result ≡ rank_at (slot_in self.now.slots i) }
+    {
+        lookup::rank(self.bytes, i)
+    }
+
+    // The slot that the slot i came from.
+    pub fn parent(&self, i: usize) -> usize
+        requires { i < length self.now.slots }
+        ensures { result ≡ (slot_in self.now.slots i).parent }
+    {
+        slots::parent(self.bytes, i)
+    }
+
+    // The action that the slot i came by.
+    pub fn action(&self, i: usize) -> u8
+        requires { i < length self.now.slots }
+        ensures { result ≡ (slot_in self.now.slots i).action }
+    {
+        slots::action(self.bytes, i)
+    }
+
+    // Whether the slot i is a goal.
+    pub fn is_goal(&self, i: usize) -> bool
+        requires { i < length self.now.slots }
+        ensures { result ≡ (slot_in self.now.slots i).goal }
+    {
+        slots::is_goal(self.bytes, i)
+    }
+
+    // Whether the slot i was taken.
+    pub fn is_taken(&self, i: usize) -> bool
+        requires { i < length self.now.slots }
+        ensures { result ≡ (slot_in self.now.slots i).taken }
+    {
+        slots::is_taken(self.bytes, i)
+    }
+
+    // The first slot that is that of a node.
+    pub fn find(&self, node: [u64; NODE]) -> Option<usize>
+        ensures { result ≡ find_in node self.now.slots 0 }
+    {
+        lookup::find(self.bytes, self.used, node)
+    }
+
+    // The first open slot of the least rank.
+    pub fn least(&self) -> Option<usize>
+        ensures { result ≡ slot_of_best (least_in self.now.slots 0) }
+    {
+        lookup::least(self.bytes, self.used)
+    }
 }

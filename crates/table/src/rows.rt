@@ -1,6 +1,5 @@
 // A slot as a row of twenty words: 0 to 8 the node, 9 to 16 the hints, 17 cost, steps and parent, 18 action, taken and goal, 19 the estimate.
 ghost use Rattle.std.specs.Prelude.{◌≡◌, ◌<◌, length};
-ghost use Rattle.model.specs.Bits.{digit};
 ghost use Rattle.model.specs.search.Node.{node_words};
 ghost use Rattle.table.specs.Slots.{slot_of, row_of, key_word, flag_word, Narrow};
 
@@ -21,7 +20,8 @@ pub const GOAL: u64 = 512;
 // Word 19 has the estimate in its lowest 30 bits.
 pub const ESTIMATE: u64 = 1073741824;
 
-// The slot of a row.
+// The slot of a row. Its words are of six kinds, so they are written out.
+#[tactic(auto, unfolding(crate::specs::Slots::slot_of, model::specs::job::Job::list_of))]
 pub fn unpack(a: [u64; ROW]) -> Slot
     ensures { result ≡ slot_of a }
 {
@@ -31,18 +31,11 @@ pub fn unpack(a: [u64; ROW]) -> Slot
         cost: a[17] % STEPS,
         steps: a[17] / STEPS % 65536,
         estimate: a[19] % ESTIMATE,
-        parent: a[17] / PARENT % 65536,
-        action: a[18] % TAKEN,
+        parent: (a[17] / PARENT % 65536) as usize,
+        action: (a[18] % TAKEN) as u8,
         taken: a[18] / TAKEN % 2 == 1,
         goal: a[18] / GOAL % 2 == 1,
     }
-}
-
-// A bit as a number.
-fn bit(b: bool) -> u64
-    ensures { (result ≡ digit b) × (result < 2) }
-{
-    if b { 1 } else { 0 }
 }
 
 // Word 17.
@@ -54,14 +47,16 @@ fn key_word(cost: u64, steps: u64, parent: u64) -> u64
 }
 
 // Word 18.
+#[tactic(auto, using(crate::proofs::RowLaws::byte_digit))]
 fn flag_word(action: u64, taken: bool, goal: bool) -> u64
     requires { action < 256 }
     ensures { result ≡ flag_word action taken goal }
 {
-    action + bit(taken) * TAKEN + bit(goal) * GOAL
+    action + u64::from(taken) * TAKEN + u64::from(goal) * GOAL
 }
 
-// A row of its parts, which have the lengths that their types say.
+// A row of its parts, which have the lengths that their types say. Written out it is proved without an answer, and compiled to plain moves.
+#[tactic(auto, unfolding(crate::specs::Slots::row_of, model::specs::job::Job::list_of))]
 fn line(node: [u64; NODE], hints: [u64; 8], key: u64, flags: u64, estimate: u64) -> [u64; ROW]
     ensures { (result ≡ row_of node hints key flags estimate) × (length node ≡ node_words) × (length hints ≡ 8) }
 {
@@ -78,7 +73,7 @@ pub fn pack(s: Slot) -> [u64; ROW]
 {
     let node = s.node;
     let hints = s.hints;
-    let key = key_word(s.cost, s.steps, s.parent);
-    let flags = flag_word(s.action, s.taken, s.goal);
+    let key = key_word(s.cost, s.steps, s.parent as u64);
+    let flags = flag_word(u64::from(s.action), s.taken, s.goal);
     line(node, hints, key, flags, s.estimate)
 }

@@ -1,4 +1,6 @@
-// Whole slots and their parts, read and written.
+// Whole slots in bytes and their parts, read and written. A part is read in one line, and has a name, where one function for all would have three numbers.
+#![tactic(auto, using(crate::proofs::SlotLaws::in_rows))]
+
 ghost use Rattle.std.specs.Prelude.{◌≡◌, ◌+◌, ◌*◌, ◌≤◌, ◌<◌, length, set, replicate};
 ghost use Rattle.model.specs.calls.Search.{slots_in, slot_bytes};
 ghost use Rattle.table.specs.Slots.{slots, slot_at, taken_slot, Narrow};
@@ -19,11 +21,7 @@ pub fn capacity(t: &[u8]) -> usize
 pub fn clear(t: &mut [u8])
     ensures { t.new ≡ replicate (length t.old) 0 }
 {
-    let mut i = 0;
-    while i < t.len() {
-        t[i] = 0;
-        i += 1;
-    }
+    t.fill(0);
 }
 
 // The slot i.
@@ -76,19 +74,19 @@ pub fn estimate(t: &[u8], i: usize) -> u64
 }
 
 // The parent of the slot i.
-pub fn parent(t: &[u8], i: usize) -> u64
+pub fn parent(t: &[u8], i: usize) -> usize
     requires { i * slot_bytes + slot_bytes ≤ length t.now }
     ensures { (result ≡ (slot_at t.now i).parent) × (result < 65536) }
 {
-    cells::get(t, i * ROW + 17) / PARENT % 65536
+    (cells::get(t, i * ROW + 17) / PARENT % 65536) as usize
 }
 
 // The action of the slot i.
-pub fn action(t: &[u8], i: usize) -> u64
+pub fn action(t: &[u8], i: usize) -> u8
     requires { i * slot_bytes + slot_bytes ≤ length t.now }
-    ensures { (result ≡ (slot_at t.now i).action) × (result < 256) }
+    ensures { result ≡ (slot_at t.now i).action }
 {
-    cells::get(t, i * ROW + 18) % TAKEN
+    (cells::get(t, i * ROW + 18) % TAKEN) as u8
 }
 
 // Whether the slot i is a goal.

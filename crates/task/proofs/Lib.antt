@@ -1,2 +1,2 @@
 -- Laws for the proofs of the functions, and for their callers.
-pub mod SetLaws
+pub mod KeyLaws

@@ -6,12 +6,12 @@ ghost use Rattle.std.specs.Int.Bits.{bit_and};
 ghost use Rattle.model.specs.Bits.{digit};
 ghost use Rattle.model.specs.job.Job.{no_action};
 ghost use Rattle.model.specs.task.State.{within, applicable, after};
-ghost use Rattle.model.specs.exploration.Key.{extend, less, same_key};
+ghost use Rattle.model.specs.exploration.Key.{extend};
 ghost use Rattle.task.specs.Meaning.{action_is, key_is};
 ghost use Rattle.task.specs.Applicable.{applicable_set};
 
 // Document 01 calls an action a step. Each of the four sets is a number whose bit i is fact i.
-#[derive(Clone, Copy)]
+#[derive(Clone, Copy, Debug, PartialEq, Eq)]
 pub struct Action {
     pub pre: u64,
     pub add: u64,
@@ -28,7 +28,7 @@ fn without(xs: u64, ys: u64) -> u64
 }
 
 // The facts that are true.
-#[derive(Clone, Copy)]
+#[derive(Clone, Copy, Debug, PartialEq, Eq)]
 pub struct State {
     pub facts: u64,
 }
@@ -44,9 +44,8 @@ impl State {
     pub fn after(self, a: Action) -> State
         ensures { result.facts ≡ after (action_is a) self.facts }
     {
-        let add = a.add;
         State {
-            facts: without(self.facts, a.del) | add,
+            facts: without(self.facts, a.del) | a.add,
         }
     }
 
@@ -57,8 +56,8 @@ impl State {
     }
 }
 
-// The cost of a path, and its number of actions.
-#[derive(Clone, Copy)]
+// The cost of a path, and its number of actions. Cost decides, and where it is equal the number of actions.
+#[derive(Clone, Copy, Debug, PartialEq, Eq, PartialOrd, Ord)]
 pub struct Key {
     pub cost: u64,
     pub steps: u64,
@@ -78,26 +77,9 @@ impl Key {
             steps: self.steps + 1,
         }
     }
-
-    // Cost decides, and where it is equal the number of actions.
-    pub fn less(self, other: Key) -> bool
-        ensures { result ≡ less (key_is self) (key_is other) }
-    {
-        if self.cost == other.cost {
-            self.steps < other.steps
-        } else {
-            self.cost < other.cost
-        }
-    }
-
-    pub fn same(self, other: Key) -> bool
-        ensures { result ≡ same_key (key_is self) (key_is other) }
-    {
-        self.cost == other.cost && self.steps == other.steps
-    }
 }
 
-// One action of a lent list, which is read and never written.
+// One action of a lent list, which is read and never written. Such a lookup is asked for (docs/DECISIONS.md).
 pub fn action_at(actions: &[Action], i: usize) -> Action
     requires { i < length actions.now }
     ensures { action_is result ≡ get_or (map action_is actions.now) i no_action }
@@ -105,31 +87,13 @@ pub fn action_at(actions: &[Action], i: usize) -> Action
     actions[i]
 }
 
-// A set with one more action below the others.
-fn marked(a: Action, facts: u64, set: u64) -> u64
-    requires { set < 2 ^ 63 }
-    ensures { result ≡ digit (applicable (action_is a) facts) + 2 * set }
-{
-    let state = State { facts };
-    if state.applicable(a) {
-        1 + 2 * set
-    } else {
-        2 * set
-    }
-}
-
-// Those actions of a lent list that are applicable in a state: bit i is action i. The last is looked up first, so that each next one is bit 0.
+// Those actions of a lent list that are applicable in a state: bit i is action i.
 pub fn applicable_in(actions: &[Action], facts: u64) -> u64
     requires { length actions.now ≤ 64 }
     ensures { result ≡ applicable_set (map action_is actions.now) facts }
 {
-    let mut set = 0;
-    let mut i = actions.len();
-    while 0 < i {
-        i -= 1;
-        set = marked(action_at(actions, i), facts, set);
-    }
-    set
+    let state = State { facts };
+    bits::set_of(actions.len(), |i| state.applicable(action_at(actions, i)))
 }
 
 // The same of eight actions that are held, which are lent. Since their number is fixed, the compiler unrolls the loop and copies no array.

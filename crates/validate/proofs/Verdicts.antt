@@ -1,30 +1,25 @@
 -- The checks of a read-through as the code makes them are those of the definition.
-use mathlib.Core.Path.{◌≡◌, refl, sym, ap, ap₂, ◌∙◌}
-use Prim.Native.Nat.{ℕ, ◌≤◌, ◌<◌}
-use native.Mathlib.Nat.{zero-add}
-use mathlib.Core.Bool.{Bool, false}
-use mathlib.Core.List.{List}
-use lib.Dec.{ltb}
-use lib.ListN.{length, take, get_or}
-use borrow.Author.Tests.{ltb-true, lt-ltb, le-ltb, le-leb, lt-leb}
+use Rattle.std.proofs.Common.{◌≡◌, refl, sym, ap, ap₂, ◌∙◌, ℕ, ◌/◌, ◌%◌, ◌^◌, ◌<◌, zero-add, Bool, List, length, take, get_or, eqb, ltb, leb, ltb-true, Ok, Err}
+use Rattle.std.proofs.Common.{IsErrAnd}
+use Rattle.model.specs.Results.{Validated, passed}
 use Rattle.model.specs.declared.Constant.TheVariants.{True}
-use Rattle.model.specs.declared.Refusal.{Refusal}
-use Rattle.model.specs.declared.Verdict.{Verdict}
-use Rattle.model.specs.declared.Verdict.TheVariants.{Fine, Bad}
-use Rattle.model.specs.declared.Validated.{Validated}
-use Rattle.model.specs.declared.Validated.TheVariants.{Passed, Refused}
+use Rattle.model.specs.Refusal.{Refusal}
+use Rattle.model.specs.Verdict.{no_refusal, Verdict, unless, or_else, in_turn}
 use Rattle.model.specs.Bits.{bit}
-use Rattle.model.specs.Verdict.{refusal, unless, or_else, in_turn}
 use Rattle.model.specs.logic.Formula.{Formula, constant}
 use Rattle.model.specs.logic.Truth.{holds}
 use Rattle.model.specs.job.Job.{Action, Job, action_of}
 use Rattle.model.specs.job.Layout.{job_of}
 use Rattle.model.specs.task.State.{within, applicable}
 use Rattle.model.specs.task.Plan.{state_after, worlds, cost_of}
+use Rattle.model.specs.search.Query.{Query}
 use Rattle.model.specs.calls.Call.{Call, call_verdict, usable_in}
 use Rattle.model.specs.calls.Validate.{length_verdict, step_verdict, goal_verdict, constraint_verdict, steps_verdict, hint_bits, validated}
 use Rattle.model.proofs.job.VerdictLaws.{or_else_fine, unless_fine, in_turn_cong}
-use Rattle.model.proofs.job.Accepted.{ProperJob}
+use Rattle.model.proofs.job.Accepted.{ProperJob, accepted_proper}
+use Rattle.job.proofs.TurnLaws.{passed_on}
+use Rattle.rights.specs.Acceptance.{accepted}
+use Rattle.rights.proofs.AcceptedCalls.{when_usable, when_refused}
 use Rattle.validate.specs.declared.walk.Walk.{Walk}
 use Rattle.validate.specs.Answer.{answer}
 use Rattle.validate.specs.Walk.{walk_of, closed_at, bits_from, end_verdict, judged}
@@ -36,15 +31,15 @@ use Rattle.validate.proofs.Tracks.{left_right}
 
 answer_or_else : (u v : Verdict) (x : Validated) → answer (or_else u v) x ≡ answer u (answer v x)
 unfolding or_else
-answer_or_else Fine v x = refl
-answer_or_else (Bad r) v x = refl
+answer_or_else (Ok _) v x = refl
+answer_or_else (Err r) v x = refl
 
--- A check that refuses decides the answer; after one that is fine, what comes after it does.
-pub answer_bad : (v : Verdict) (r : Refusal) (x : Validated) → v ≡ Bad r → Refused r ≡ answer v x
-answer_bad v r x e = rw e
+-- A check that refuses decides the answer u; after one that is fine, what comes after it does.
+pub answer_refused : (u : Validated) (v : Verdict) (x : Validated) {r : Refusal} → IsErrAnd u (λ y. y ≡ r) → Err r ≡ v → u ≡ answer v x
+answer_refused u v x h e = rw (passed_on u h, ← e)
 
-pub answer_fine : (v : Verdict) (x y : Validated) → v ≡ Fine → y ≡ x → y ≡ answer v x
-answer_fine v x y e q = rw (e, q)
+pub answer_fine : (u : Validated) (v : Verdict) (x : Validated) → no_refusal ≡ v → u ≡ x → u ≡ answer v x
+answer_fine u v x e h = rw (← e, h)
 
 -- ---- a step
 
@@ -54,27 +49,25 @@ checks j u a s i =
     or_else (unless (ltb a (length j.actions)) 6 i) (or_else (unless (bit u a) 15 i) (unless (applicable (action_of j a) s) 7 i))
 
 -- The checks of a step by the facts that a walk has come to are those of the definition.
-pub step_checked : (j : Job) (p : List ℕ) (u i : ℕ) (w : Walk) (v : Verdict) → w ≡ walk_of j (take i p) → v ≡ checks j u (get_or p i 0) w.facts i
+pub step_checked : (j : Job) (p : List ℕ) (u i : ℕ) (w : Walk) {v : Verdict} → w ≡ walk_of j (take i p) → v ≡ checks j u (get_or p i 0) w.facts i
     → v ≡ step_verdict j p u i
 unfolding step_verdict
-step_checked j p u i w v e q =
+step_checked j p u i w e q =
     let f : w.facts ≡ state_after j j.start (take i p) = ap (λ (x : Walk). x.facts) e ∙ walk_facts j (take i p) in
     rw f at q
 
--- A step that is no action of the job.
-pub step_unknown : (a n i : ℕ) (r v : Verdict) → r ≡ unless false 6 i → n ≤ a → r ≡ or_else (unless (ltb a n) 6 i) v
-unfolding unless or_else
-step_unknown a n i r v e l = rw (le-ltb a n l, e)
+-- The check of a step's right by the bits that were read, and of its applicability by the test of the action that was read.
+pub right_checked : {x u : ℕ} (a i : ℕ) {v : Verdict} → x ≡ u → v ≡ unless (eqb (x / 2 ^ a % 2) 1) 15 i → v ≡ unless (bit u a) 15 i
+unfolding bit
+right_checked a i e h = rw e at h
 
--- A step that is an action of the job: b and v are the code's checks of its right and of its facts, t is the test of its facts, x the action that was read.
-pub step_judged : (j : Job) (u a s i : ℕ) (r b v : Verdict) (t : Bool) (x : Action) → r ≡ or_else b v → b ≡ unless (bit u a) 15 i → v ≡ unless t 7 i
-    → t ≡ applicable x s → x ≡ action_of j a → a < length j.actions → r ≡ checks j u a s i
-unfolding unless or_else
-step_judged j u a s i r b v t x e eb ev et ex l = rw (lt-ltb a (length j.actions) l, unless, or_else, e, eb, ev, et, ex)
+pub applicable_checked : {x y : Action} (s i : ℕ) {b : Bool} {v : Verdict} → b ≡ applicable x s → x ≡ y → v ≡ unless b 7 i
+    → v ≡ unless (applicable y s) 7 i
+applicable_checked s i t e h = rw (t, e) at h
 
 -- A step whose check is fine is one of the job's actions.
-pub step_known : (a n i : ℕ) (v : Verdict) → or_else (unless (ltb a n) 6 i) v ≡ Fine → a < n
-step_known a n i v e = ltb-true a n ((unless_fine (ltb a n) 6 i).0 ((or_else_fine (unless (ltb a n) 6 i) v).0 e).0)
+pub step_known : (a n i : ℕ) (v : Verdict) → no_refusal ≡ or_else (unless (ltb a n) 6 i) v → a < n
+step_known a n i v e = ltb-true a n ((unless_fine (ltb a n) 6 i).0 ((or_else_fine (unless (ltb a n) 6 i) v).0 (sym e)).0)
 
 -- ---- the end
 
@@ -103,42 +96,61 @@ module _ (j : Job) (proper : ProperJob j) (p : List ℕ) where
 
   -- The judgement of the whole walk is that of the definition.
   judged_right : judged j (walk_of j p)
-      ≡ answer (or_else (goal_verdict j p) (in_turn (length j.constraints) (constraint_verdict j p))) (Passed (cost_of j p) (hint_bits j p))
+      ≡ answer (or_else (goal_verdict j p) (in_turn (length j.constraints) (constraint_verdict j p))) (Ok (passed (cost_of j p) (hint_bits j p)))
   unfolding judged
-  judged_right = ap₂ answer end_right (ap₂ Passed (walk_cost j p) bits_right)
+  judged_right = ap₂ answer end_right (ap Ok (ap₂ passed (walk_cost j p) bits_right))
 
-  -- A step list that is not too long: the steps in turn, and then the end.
-  pub through_right : (u : ℕ) → length p ≤ 65_535
-      → answer (in_turn (length p) (step_verdict j p u)) (judged j (walk_of j p)) ≡ answer (steps_verdict j p u) (Passed (cost_of j p) (hint_bits j p))
-  unfolding steps_verdict length_verdict unless or_else
-  through_right u l = rw (judged_right, le-leb (length p) 65_535 l, unless, or_else, answer_or_else (in_turn (length p) (step_verdict j p u)))
+  -- The length, the steps in turn, and then the end.
+  through_right : (u : ℕ) → answer (length_verdict j p) (answer (in_turn (length p) (step_verdict j p u)) (judged j (walk_of j p)))
+      ≡ answer (steps_verdict j p u) (Ok (passed (cost_of j p) (hint_bits j p)))
+  unfolding steps_verdict
+  through_right u = rw (judged_right, answer_or_else (length_verdict j p), answer_or_else (in_turn (length p) (step_verdict j p u)))
 
--- A step list that is too long.
-pub too_long : (j : Job) (p : List ℕ) (u : ℕ) (x : Validated) → 65_535 < length p → Refused (refusal 6 65_535) ≡ answer (steps_verdict j p u) x
-unfolding steps_verdict length_verdict unless or_else
-too_long j p u x l = rw (lt-leb (length p) 65_535 l)
+-- ---- the call
 
 module _ (c : Call) (p : List ℕ) where
   abbrev steps : Verdict
   steps = steps_verdict (job_of c.bytes) p (usable_in c)
 
-  abbrev passed : Validated
-  passed = Passed (cost_of (job_of c.bytes) p) (hint_bits (job_of c.bytes) p)
+  abbrev met : Validated
+  met = Ok (passed (cost_of (job_of c.bytes) p) (hint_bits (job_of c.bytes) p))
 
   -- The answer is the call's refusal, or that of the steps, or that they pass.
-  answered : answer (call_verdict c) (answer steps passed) ≡ validated c p
+  answered : answer (call_verdict c) (answer steps met) ≡ validated c p
   unfolding validated
-  answered = sym (answer_or_else (call_verdict c) steps passed) ∙ go (or_else (call_verdict c) steps) refl
+  answered = sym (answer_or_else (call_verdict c) steps met) ∙ go (or_else (call_verdict c) steps) refl
     where
-      go : (v : Verdict) → or_else (call_verdict c) steps ≡ v → answer (or_else (call_verdict c) steps) passed ≡ validated c p
-      go Fine e = rw (e, validated)
-      go (Bad r) e = rw (e, validated)
+      go : (v : Verdict) → or_else (call_verdict c) steps ≡ v → answer (or_else (call_verdict c) steps) met ≡ validated c p
+      go (Ok _) e = rw (e, validated)
+      go (Err r) e = rw (e, validated)
 
-  -- The call is refused.
-  pub call_refused : (r : Refusal) → call_verdict c ≡ Bad r → Refused r ≡ validated c p
-  call_refused r e = answer_bad (call_verdict c) r (answer steps passed) e ∙ answered
+  -- the answer for what is asked, by the length, the steps in turn and the end
+  abbrev read : Query → Validated
+  read q =
+      answer (length_verdict (job_of q.bytes) p)
+      (answer (in_turn (length p) (step_verdict (job_of q.bytes) p q.usable)) (judged (job_of q.bytes) (walk_of (job_of q.bytes) p)))
 
-  -- The call is accepted, u has its usable steps, and x is the answer for the step list.
-  pub call_read : (u : ℕ) (x : Validated) → call_verdict c ≡ Fine → u ≡ usable_in c
-      → x ≡ answer (steps_verdict (job_of c.bytes) p u) (Passed (cost_of (job_of c.bytes) p) (hint_bits (job_of c.bytes) p)) → x ≡ validated c p
-  call_read u x e q h = answer_fine (call_verdict c) (answer steps passed) x e (rw q at h) ∙ answered
+  module _ {u : Validated} where
+    -- The call is refused.
+    pub call_refused : {r : Refusal} → IsErrAnd u (λ y. y ≡ r) → Err r ≡ accepted c → u ≡ validated c p
+    call_refused h e = answer_refused u (call_verdict c) (answer steps met) h (sym (when_refused c e)) ∙ answered
+
+    -- It is accepted, and q is what is asked.
+    module _ {q : Query} (e : Ok q ≡ accepted c) where
+      call_read : u ≡ read q → u ≡ validated c p
+      call_read h =
+          let k = when_usable c e in
+          let r = through_right (job_of c.bytes) (accepted_proper c.bytes k.job_fine) p (usable_in c) in
+          answer_fine u (call_verdict c) (answer steps met) (sym k.fine) (h ∙ ap read k.asks ∙ r) ∙ answered
+
+      -- The step list is too long.
+      pub too_long : {r : Refusal} → IsErrAnd u (λ y. y ≡ r) → Err r ≡ unless (leb (length p) 65_535) 6 65_535 → u ≡ validated c p
+      unfolding length_verdict
+      too_long h l = call_read (answer_refused u _ _ h l)
+
+      -- It is not, and u is the answer by the steps and the end.
+      pub read_through : no_refusal ≡ unless (leb (length p) 65_535) 6 65_535
+          → u ≡ answer (in_turn (length p) (step_verdict (job_of q.bytes) p q.usable)) (judged (job_of q.bytes) (walk_of (job_of q.bytes) p))
+          → u ≡ validated c p
+      unfolding length_verdict
+      read_through l h = call_read (answer_fine u _ _ l h)

@@ -1,12 +1,6 @@
 -- Laws of the walk: one step more, and the facts, cost and residuals that it comes to.
-use mathlib.Core.Path.{◌≡◌, refl, sym, ◌∙◌}
-use Prim.Native.Nat.{ℕ, ◌+◌, ◌<◌}
-use native.Mathlib.Nat.{add_assoc, add-zero, zero-add}
-use native.Mathlib.Numerals.{add-one}
-use mathlib.Core.Option.{some}
-use mathlib.Core.List.{List, [], ◌∷◌, ◌++◌}
-use lib.ListN.{length, take, get_or}
-use lib.Seq.{take-suc, take-length}
+use Rattle.std.proofs.Common.{◌≡◌, refl, sym, ◌∙◌, ℕ, ◌+◌, ◌<◌, add_assoc, add-zero, zero-add, add-one, Some, List, [], ◌∷◌, ◌++◌, length, take, get_or}
+use Rattle.std.proofs.Math.Seq.{take-suc}
 use Rattle.model.specs.logic.Formula.{Formula}
 use Rattle.model.specs.job.Job.{Action, Job, action_of}
 use Rattle.model.specs.task.State.{after}
@@ -30,10 +24,6 @@ module _ (j : Job) where
   pub walk_more : (p : List ℕ) (i : ℕ) (w : Walk) → w ≡ walk_of j (take i p) → i < length p → stepped j w (get_or p i 0) ≡ walk_of j (take (i + 1) p)
   unfolding walk_of
   walk_more p i w e l = rw (add-one i, take-suc p i 0 l, e) (sym (walk_from_snoc (started j) (take i p) (get_or p i 0)))
-
-  -- All steps of a list.
-  pub walk_all : (p : List ℕ) (i : ℕ) (w : Walk) → w ≡ walk_of j (take i p) → i ≡ length p → w ≡ walk_of j p
-  walk_all p i w e q = rw (q, take-length) at e
 
   -- ---- its parts
   walk_from_facts : (w : Walk) (p : List ℕ) → (walk_from j w p).facts ≡ state_after j w.facts p
@@ -93,8 +83,8 @@ module _ (j : Job) where
 
   -- x is the action that was read, n and m are the numbers of constraints and hints.
   pub step_made : (w : Walk) (a s n m : ℕ) (x : Action) (cs hs : List ℕ) → x ≡ action_of j a → s ≡ after x w.facts
-      → cs ≡ padded (progressed_all j.constraints (take n w.constraints) (record { state = s; made = some a }))
-      → hs ≡ padded (progressed_all j.hints (take m w.hints) (record { state = s; made = some a }))
+      → cs ≡ padded (progressed_all j.constraints (take n w.constraints) (record { state = s; made = Some a }))
+      → hs ≡ padded (progressed_all j.hints (take m w.hints) (record { state = s; made = Some a }))
       → n ≡ length j.constraints → m ≡ length j.hints
       → record { facts = s; cost = w.cost + x.cost; constraints = cs; hints = hs } ≡ stepped j w a
   unfolding stepped carried reached

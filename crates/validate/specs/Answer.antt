@@ -1,10 +1,9 @@
 -- What a read-through answers by a check.
-use Rattle.model.specs.declared.Verdict.{Verdict}
-use Rattle.model.specs.declared.Verdict.TheVariants.{Fine, Bad}
-use Rattle.model.specs.declared.Validated.{Validated}
-use Rattle.model.specs.declared.Validated.TheVariants.{Refused}
+use Rattle.std.specs.Prelude.{Ok, Err}
+use Rattle.model.specs.Verdict.{Verdict}
+use Rattle.model.specs.Results.{Validated}
 
 -- the refusal, or what comes after the check
 abbrev pub answer : Verdict → Validated → Validated
-answer (Bad r) x = Refused r
-answer Fine x = x
+answer (Err r) x = Err r
+answer (Ok _) x = x

@@ -1,13 +1,9 @@
 -- The walk along a step list, and the checks after its last step by what constraints and hints have left.
-use Rattle.std.specs.Prelude.{ℕ, zero, suc, ◌+◌, ◌*◌, Bool, length, take, get_or}
-use Rattle.std.proofs.Math.Option.{none, some}
-use mathlib.Core.List.{List, [], ◌∷◌}
+use Rattle.std.specs.Prelude.{Ok, None, Some, ℕ, zero, suc, ◌+◌, ◌*◌, Bool, List, [], ◌∷◌, length, take, get_or}
 use Rattle.model.specs.declared.Constant.TheVariants.{True}
-use Rattle.model.specs.declared.Verdict.{Verdict}
-use Rattle.model.specs.declared.Validated.{Validated}
-use Rattle.model.specs.declared.Validated.TheVariants.{Passed}
+use Rattle.model.specs.Results.{Validated, passed}
+use Rattle.model.specs.Verdict.{Verdict, unless, or_else, in_turn}
 use Rattle.model.specs.Bits.{digit}
-use Rattle.model.specs.Verdict.{unless, or_else, in_turn}
 use Rattle.model.specs.logic.Formula.{Formula, constant}
 use Rattle.model.specs.logic.Parts.{parts_of}
 use Rattle.model.specs.logic.Truth.{World}
@@ -21,7 +17,7 @@ use Rattle.validate.specs.Answer.{answer}
 
 -- the world of a state in which no action was made
 abbrev pub still : ℕ → World
-still s = record { state = s; made = none }
+still s = record { state = s; made = None }
 
 -- what formulas have left in an array, one world on
 unfoldable pub carried : List Formula → List ℕ → World → List ℕ
@@ -42,7 +38,7 @@ module _ (j : Job) where
   -- the world that a step leads to
   unfoldable pub reached : ℕ → ℕ → World
   unfolding after action_of
-  reached s a = record { state = after (action_of j a) s; made = some a }
+  reached s a = record { state = after (action_of j a) s; made = Some a }
 
   unfoldable pub stepped : Walk → ℕ → Walk
   unfolding reached carried action_of
@@ -83,4 +79,4 @@ module _ (j : Job) where
   unfolding end_verdict bits_from closed_at
   judged w =
       answer (end_verdict w.constraints w.facts)
-      (Passed w.cost (bits_from (closed_at j.hints w.hints w.facts) 0 (length j.hints)))
+      (Ok (passed w.cost (bits_from (closed_at j.hints w.hints w.facts) 0 (length j.hints))))

@@ -5,7 +5,7 @@ unfoldable pub digits : ℕ → ℕ → List ℕ
 digits zero v = []
 digits (suc n) v = v % 256 ∷ digits n (v / 256)
 
--- two and eight bytes, written out as the code adds them up
+-- two and eight bytes, added up: numbers of 16 and of 64 bits
 abbrev pub two : List ℕ → ℕ → ℕ
 two l at = get_or l at 0 + get_or l (at + 1) 0 * 256
 

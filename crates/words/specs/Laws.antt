@@ -12,7 +12,9 @@ number_at_lem n at l h = rw (drop-cons l at 0)
 
 -- the same k bytes after a place
 number_from : (n at k : ℕ) (l : List ℕ) → at + k < length l → number_at (suc n) l (at + k) ≡ get_or l (at + k) 0 + 256 * number_at n l (at + suc k)
-number_from n at k l h = let e : suc (at + k) ≡ at + suc k = omega arith in number_at_lem n (at + k) l h ∙ ap (λ (x : ℕ). get_or l (at + k) 0 + 256 * number_at n l x) e
+number_from n at k l h =
+    let e : suc (at + k) ≡ at + suc k = omega arith in
+    number_at_lem n (at + k) l h ∙ ap (λ (x : ℕ). get_or l (at + k) 0 + 256 * number_at n l x) e
 
 number_none : (at : ℕ) (l : List ℕ) → number_at 0 l at ≡ 0
 unfolding number_at number
@@ -22,14 +24,16 @@ module _ (at : ℕ) (l : List ℕ) where
   pub two_bytes : at + 2 ≤ length l → two l at ≡ number_at 2 l at
   two_bytes h =
       let e : suc at ≡ at + 1 = omega arith in
-      let a : number_at 2 l at ≡ get_or l at 0 + 256 * number_at 1 l (at + 1) = number_at_lem 1 at l (omega arith) ∙ ap (λ (x : ℕ). get_or l at 0 + 256 * number_at 1 l x) e in
+      let a : number_at 2 l at ≡ get_or l at 0 + 256 * number_at 1 l (at + 1) =
+      number_at_lem 1 at l (omega arith) ∙ ap (λ (x : ℕ). get_or l at 0 + 256 * number_at 1 l x) e in
       let b = number_from 0 at 1 l (omega arith) in
       omega (arith, number_none (at + 2) l)
 
   pub eight_bytes : at + 8 ≤ length l → eight l at ≡ number_at 8 l at
   eight_bytes h =
       let e : suc at ≡ at + 1 = omega arith in
-      let a : number_at 8 l at ≡ get_or l at 0 + 256 * number_at 7 l (at + 1) = number_at_lem 7 at l (omega arith) ∙ ap (λ (x : ℕ). get_or l at 0 + 256 * number_at 7 l x) e in
+      let a : number_at 8 l at ≡ get_or l at 0 + 256 * number_at 7 l (at + 1) =
+      number_at_lem 7 at l (omega arith) ∙ ap (λ (x : ℕ). get_or l at 0 + 256 * number_at 7 l x) e in
       let b = number_from 6 at 1 l (omega arith) in
       let c = number_from 5 at 2 l (omega arith) in
       let d = number_from 4 at 3 l (omega arith) in

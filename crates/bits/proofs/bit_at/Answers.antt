@@ -1,5 +1,5 @@
 -- `bit_at` tests a bit: it is what the definition computes.
-use mathlib.Core.Path.{refl}
+use Rattle.std.proofs.Common.{refl}
 use Rattle.model.specs.Bits.{bit}
 use Rattle.bits.proofs.bit_at.Goals as goal
 

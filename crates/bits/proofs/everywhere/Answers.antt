@@ -1,7 +1,5 @@
 -- The two constant tables, which antt computes.
-use mathlib.Core.Path.{◌≡◌, refl, sym, ap, ◌∙◌}
-use mathlib.Core.Bool.{Bool, true, false}
-use Prim.Native.Nat.{ℕ}
+use Rattle.std.proofs.Common.{◌≡◌, refl, sym, ap, ◌∙◌, Bool, true, false, ℕ}
 use Rattle.model.specs.logic.Parts.{most_parts}
 use Rattle.bits.specs.Tables.{everywhere}
 use Rattle.bits.proofs.everywhere.Goals as goal

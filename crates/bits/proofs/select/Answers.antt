@@ -6,4 +6,4 @@ use Rattle.bits.proofs.select.Goals as goal
 pub returns : goal.returns
 returns c =
     let a = c.args in
-    rw (c.where_true.ensures, c.where_false.ensures) (select_law most_parts a.i a.p a.r c.ranges.p.fits)
+    rw (c.fixed.ensures, c.fixed-2.ensures) (select_law most_parts a.i a.p a.r c.ranges.p.fits)

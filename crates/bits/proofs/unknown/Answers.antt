@@ -1,8 +1,5 @@
 -- The six tables, which antt computes, and the empty one of any further unknown.
-use mathlib.Core.Path.{◌≡◌, refl, sym, ap, ◌∙◌}
-use Prim.Native.Nat.{ℕ, ◌≤◌}
-use native.Mathlib.Omega.{arith}
-use mathlib.Core.Bool.{false}
+use Rattle.std.proofs.Common.{◌≡◌, refl, sym, ap, ◌∙◌, ℕ, ◌≤◌, arith, false}
 use Rattle.model.specs.logic.Parts.{most_parts}
 use Rattle.model.specs.Bits.{bit, of_bits}
 use Rattle.model.proofs.bits.Bits.{of_bits_cong}

@@ -1,10 +1,8 @@
--- What the turns that are left come to is the estimate; a turn fewer is left each time.
-use Rattle.model.specs.search.Query.{query, job_for}
+-- What the turns that are left come to is the estimate; in a turn it is one of them.
+use Rattle.std.proofs.Common.{suc, ◌-◌}
+use Rattle.model.specs.search.Query.{job_for}
 use Rattle.estimate.proofs.LevelLaws.{Rising}
 use Rattle.estimate.proofs.estimate.Given as goal
 
-abbrev pub invariant-loop-left : goal.invariant-loop-left
-invariant-loop-left l = Rising (job_for (query l.job l.usable)) l.facts l.left l.built l.level l.ends
-
-abbrev pub decreases-loop-left : goal.decreases-loop-left
-decreases-loop-left l = l.left
+abbrev pub invariant-loop : goal.invariant-loop
+invariant-loop l = Rising (job_for l.q) l.facts l.goal (suc (l.end - l.counter)) l.built l.level l.ends

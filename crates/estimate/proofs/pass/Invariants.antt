@@ -1,11 +1,8 @@
 -- The actions below i of the restricted job are passed.
-use Prim.Native.Nat.{◌-◌, ◌≤◌}
-use Rattle.model.specs.search.Query.{query, job_for}
-use Rattle.estimate.proofs.PassLaws.{Passing}
+use Rattle.model.specs.job.Layout.{job_of}
+use Rattle.model.specs.job.Rights.{restricted}
+use Rattle.estimate.specs.Turns.{Passed}
 use Rattle.estimate.proofs.pass.Given as goal
 
 abbrev pub invariant-loop-i : goal.invariant-loop-i
-invariant-loop-i l = (l.i ≤ l.count) × Passing (job_for (query l.job l.usable)) l.built l.level l.initial.ends l.ends l.i l.best
-
-abbrev pub decreases-loop-i : goal.decreases-loop-i
-decreases-loop-i l = l.count - l.i
+invariant-loop-i l = Passed (restricted l.usable (job_of l.job)) l.built l.level l.initial.ends l.ends l.i l.best

@@ -1,11 +1,11 @@
 -- What passes the checks of a rule to write back.
+use Rattle.model.specs.Verdict.{no_refusal}
 use mathlib.Core.Path.{◌≡◌}
 use mathlib.Core.List.{List}
 use Prim.Native.Nat.{ℕ, ◌≤◌}
 use lib.ListN.{length}
 use lib.Dec.{leb}
 use borrow.Author.Tests.{leb-true}
-use Rattle.model.specs.declared.Verdict.TheVariants.{Fine}
 use Rattle.model.specs.logic.Formula.{Formula}
 use Rattle.model.specs.logic.Reading.{formula, section}
 use Rattle.model.specs.calls.WriteBack.{rule_verdict}
@@ -22,7 +22,7 @@ pub record FineRule (v a : ℕ) (rule : List ℕ) : Type 0 where
   pub bytes : ℕ
   pub reads : section v a rule ≡ formula shape bytes
 
-pub rule_fine : (v a : ℕ) (rule : List ℕ) → rule_verdict v a rule ≡ Fine → FineRule v a rule
+pub rule_fine : (v a : ℕ) (rule : List ℕ) → rule_verdict v a rule ≡ no_refusal → FineRule v a rule
 unfolding rule_verdict
 rule_fine v a rule e =
     let x = (or_else_fine _ _).0 e in

@@ -1,10 +1,10 @@
 -- The estimate is the max estimate: the largest solution of the card's equations, admissible and consistent.
+use Rattle.std.proofs.Common.{Option, None, Some}
 use mathlib.Core.Path.{◌≡◌, refl, sym, ap, ◌∙◌, subst}
 use mathlib.Core.Logic.{◌↔◌}
 use Prim.Native.Nat.{ℕ, ◌+◌, ◌<◌}
 use native.Mathlib.Omega.{arith}
 use mathlib.Core.Bool.{Bool, true, false, true≢false}
-use mathlib.Core.Option.{Option, none, some}
 use mathlib.Core.List.{List, [], ◌∷◌}
 use lib.ListN.{length}
 use Rattle.model.specs.Bits.{bit}
@@ -37,7 +37,7 @@ module _ (j : Job) where
       (estimate_most s ((act i).cost + t)).1 (λ g p. before_it j s i b (applicable_needs (act i) s a) ((estimate_most (after (act i) s) t).0 h g p))
 
   -- A state with the goal is estimated at nothing.
-  pub goal_zero : (s : ℕ) → within j.goal s ≡ true → estimate_of j s ≡ some 0
+  pub goal_zero : (s : ℕ) → within j.goal s ≡ true → estimate_of j s ≡ Some 0
   unfolding estimate_of level_of level_from
   goal_zero s h = rw (h, level_from)
 
@@ -64,9 +64,9 @@ module _ (j : Job) where
     λ b. (level_most j (only f) s t).1 (λ g p. subst (λ (k : ℕ). Built j s k t) (sym (only_one f g p)) b),
   )
 
-  at_most_zero : (o : Option ℕ) → AtMost o 0 → o ≡ some 0
-  at_most_zero none h = absurd h
-  at_most_zero (some c) h = let e : c ≡ 0 = omega arith in ap some e
+  at_most_zero : (o : Option ℕ) → AtMost o 0 → o ≡ Some 0
+  at_most_zero None h = absurd h
+  at_most_zero (Some c) h = let e : c ≡ 0 = omega arith in ap Some e
 
   cost_solves : (s : ℕ) → Solves j s (cost_from s)
   cost_solves s = record {

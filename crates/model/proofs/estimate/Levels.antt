@@ -1,10 +1,10 @@
 -- The level at which the turns stop is the least at which all facts of the set can be built.
+use Rattle.std.proofs.Common.{Option, None, Some}
 use mathlib.Core.Path.{◌≡◌, refl}
 use mathlib.Core.Logic.{◌↔◌}
 use Prim.Native.Nat.{ℕ, zero, suc, ◌≤◌, ◌<◌}
 use native.Mathlib.Omega.{arith}
 use mathlib.Core.Bool.{Bool, true, false}
-use mathlib.Core.Option.{Option, none, some}
 use mathlib.Core.List.{[]}
 use lib.Bits.{bit_or}
 use lib.ListN.{length}
@@ -26,8 +26,8 @@ module _ (j : Job) where
   module _ (s goal : ℕ) where
     -- A level is the least at which all facts of the goal can be built; where there is none, they cannot be.
     abbrev pub Least : Option ℕ → Type 0
-    Least none = (t : ℕ) → AllBuilt j s goal t → ⊥
-    Least (some l) = AllBuilt j s goal l × ((t : ℕ) → AllBuilt j s goal t → l ≤ t)
+    Least None = (t : ℕ) → AllBuilt j s goal t → ⊥
+    Least (Some l) = AllBuilt j s goal l × ((t : ℕ) → AllBuilt j s goal t → l ≤ t)
 
     -- what the turns from a level on, n of them, come to
     abbrev From : ℕ → ℕ → ℕ → Ends → Type 0
@@ -47,8 +47,8 @@ module _ (j : Job) where
             → ((b x : ℕ) → Level j s goal b x (readied j built level ends) → useful j b A < n → From n b x (readied j built level ends))
             → From (suc n) built level ends
         go true w o e is ih = rw (w, level_from) (λ g p. v.sound g ((within_facts goal built).0 w g p), v.due)
-        go false w none e is ih = rw (w, level_from, e) (never_built j v w (rw e at is))
-        go false w (some g) e is ih =
+        go false w None e is ih = rw (w, level_from, e) (never_built j v w (rw e at is))
+        go false w (Some g) e is ih =
             let z = rw e at is in
             rw (w, level_from, e) (ih (bit_or built g.adds) g.level (next_level j v w g z) (omega (arith, less_useful j v w g z)))
 
@@ -71,5 +71,5 @@ module _ (j : Job) where
   level_most goal s t = go (level_of j goal s) (level_is s goal)
     where
       go : (o : Option ℕ) → Least s goal o → AtMost o t ↔ AllBuilt j s goal t
-      go none r = (λ e. absurd e, λ b. r t b)
-      go (some l) r = (λ e g p. later j (r.0 g p) e, r.1 t)
+      go None r = (λ e. absurd e, λ b. r t b)
+      go (Some l) r = (λ e g p. later j (r.0 g p) e, r.1 t)

@@ -1,8 +1,8 @@
 -- The estimate depends on nothing but the goal and what actions need, add and cost.
+use Rattle.std.proofs.Common.{Option, None, Some}
 use mathlib.Core.Path.{◌≡◌, refl, sym, ap, ◌∙◌}
 use Prim.Native.Nat.{ℕ}
 use native.Mathlib.Omega.{arith}
-use mathlib.Core.Option.{Option, none, some}
 use Rattle.model.specs.Bits.{bit}
 use Rattle.model.specs.job.Job.{Job}
 use Rattle.model.specs.search.Estimate.{estimate_of}
@@ -12,10 +12,10 @@ use Rattle.model.proofs.estimate.Estimates.{estimate_most}
 
 -- Costs that are at most the same numbers are equal.
 most_same : (o p : Option ℕ) → ((t : ℕ) → AtMost o t → AtMost p t) → ((t : ℕ) → AtMost p t → AtMost o t) → o ≡ p
-most_same none none f g = refl
-most_same none (some d) f g = absurd (g d (omega arith))
-most_same (some c) none f g = absurd (f c (omega arith))
-most_same (some c) (some d) f g = let e : c ≡ d = omega (arith, f c (omega arith), g d (omega arith)) in ap some e
+most_same None None f g = refl
+most_same None (Some d) f g = absurd (g d (omega arith))
+most_same (Some c) None f g = absurd (f c (omega arith))
+most_same (Some c) (Some d) f g = let e : c ≡ d = omega (arith, f c (omega arith), g d (omega arith)) in ap Some e
 
 alike_sym : {j k : Job} → BuildAlike j k → BuildAlike k j
 alike_sym a = record {

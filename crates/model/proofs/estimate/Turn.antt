@@ -1,10 +1,10 @@
 -- One turn of the estimate: what is known of the facts built at a level is known of those built at the next.
+use Rattle.std.proofs.Common.{Option, None, Some}
 use mathlib.Core.Path.{◌≡◌, refl, sym, ap, ◌∙◌}
 use mathlib.Core.Logic.{◌⊎◌, inl, inr}
 use Prim.Native.Nat.{ℕ, ◌+◌, ◌≤◌, ◌<◌}
 use native.Mathlib.Omega.{arith}
 use mathlib.Core.Bool.{Bool, true, false, ◌||◌, or-true, true≢false}
-use mathlib.Core.Option.{Option, none, some}
 use lib.Bits.{bit_or}
 use lib.ListN.{length, get_or}
 use Rattle.model.specs.Bits.{bit}
@@ -37,9 +37,9 @@ module _ (j : Job) where
   pub record Level (s goal built level : ℕ) (ends : Ends) : Type 0 where
     pub sound : (f : ℕ) → bit built f ≡ true → Built j s f level
     pub from : (f : ℕ) → bit s f ≡ true → bit built f ≡ true
-    pub timed : (i e : ℕ) → i < A → get_or ends i none ≡ some e → Timed s i e
+    pub timed : (i e : ℕ) → i < A → get_or ends i None ≡ Some e → Timed s i e
     pub low : (f t : ℕ) → bit built f ≡ false → Built j s f t → level ≤ t
-    pub unready : (i : ℕ) → i < A → get_or ends i none ≡ none → (t : ℕ) → AllBuilt j s (act i).pre t → level ≤ t
+    pub unready : (i : ℕ) → i < A → get_or ends i None ≡ None → (t : ℕ) → AllBuilt j s (act i).pre t → level ≤ t
     pub due : (t : ℕ) → AllBuilt j s goal t → level ≤ t
 
   module _ {s goal built level : ℕ} {ends : Ends} (v : Level s goal built level ends) (missing : within goal built ≡ false) where
@@ -47,44 +47,44 @@ module _ (j : Job) where
     abbrev now : Ends
     now = readied j built level ends
 
-    end_is : (i : ℕ) → i < A → get_or now i none ≡ end_of j built level (get_or ends i none) i
+    end_is : (i : ℕ) → i < A → get_or now i None ≡ end_of j built level (get_or ends i None) i
     unfolding readied
-    end_is i l = get_or-list_of (λ (k : ℕ). end_of j built level (get_or ends k none) k) A i none l
+    end_is i l = get_or-list_of (λ (k : ℕ). end_of j built level (get_or ends k None) k) A i None l
 
     -- An action whose needed facts are built is ready.
-    ready_some : (i : ℕ) → i < A → within (act i).pre built ≡ true → (e : ℕ) × (get_or now i none ≡ some e)
+    ready_some : (i : ℕ) → i < A → within (act i).pre built ≡ true → (e : ℕ) × (get_or now i None ≡ Some e)
     unfolding end_of
-    ready_some i l w = go (get_or ends i none) refl
+    ready_some i l w = go (get_or ends i None) refl
       where
-        go : (o : Option ℕ) → get_or ends i none ≡ o → (e : ℕ) × (get_or now i none ≡ some e)
-        go (some e) d = (e, end_is i l ∙ rw (d, end_of))
-        go none d = (level + (act i).cost, end_is i l ∙ rw (d, end_of, w))
+        go : (o : Option ℕ) → get_or ends i None ≡ o → (e : ℕ) × (get_or now i None ≡ Some e)
+        go (Some e) d = (e, end_is i l ∙ rw (d, end_of))
+        go None d = (level + (act i).cost, end_is i l ∙ rw (d, end_of, w))
 
     -- Where an action has no end, a needed fact is not built.
-    none_ready : (i : ℕ) → i < A → get_or now i none ≡ none → within (act i).pre built ≡ false
+    none_ready : (i : ℕ) → i < A → get_or now i None ≡ None → within (act i).pre built ≡ false
     none_ready i l h = go (within (act i).pre built) refl
       where
         go : (w : Bool) → within (act i).pre built ≡ w → within (act i).pre built ≡ false
         go true f = let r = ready_some i l f in none_some (sym h ∙ r.1)
         go false f = f
 
-    timed_now : (i e : ℕ) → i < A → get_or now i none ≡ some e → Timed s i e
+    timed_now : (i e : ℕ) → i < A → get_or now i None ≡ Some e → Timed s i e
     unfolding end_of
-    timed_now i e l h = go (get_or ends i none) refl (within (act i).pre built) refl
+    timed_now i e l h = go (get_or ends i None) refl (within (act i).pre built) refl
       where
-        is : end_of j built level (get_or ends i none) i ≡ some e
+        is : end_of j built level (get_or ends i None) i ≡ Some e
         is = sym (end_is i l) ∙ h
 
-        go : (o : Option ℕ) → get_or ends i none ≡ o → (w : Bool) → within (act i).pre built ≡ w → Timed s i e
-        go (some x) d w f = let q : ◌≡◌ {A = Option ℕ} (some x) (some e) = rw (d, end_of) at is in v.timed i e l (d ∙ q)
-        go none d true f =
-            let q : ◌≡◌ {A = Option ℕ} (some (level + (act i).cost)) (some e) = rw (d, end_of, f) at is in
+        go : (o : Option ℕ) → get_or ends i None ≡ o → (w : Bool) → within (act i).pre built ≡ w → Timed s i e
+        go (Some x) d w f = let q : ◌≡◌ {A = Option ℕ} (Some x) (Some e) = rw (d, end_of) at is in v.timed i e l (d ∙ q)
+        go None d true f =
+            let q : ◌≡◌ {A = Option ℕ} (Some (level + (act i).cost)) (Some e) = rw (d, end_of, f) at is in
             let p : level + (act i).cost ≡ e = cc in
             record { ready = level; ends = sym p; needed = λ g b. v.sound g ((within_facts (act i).pre built).0 f g b); least = v.unready i l d }
-        go none d false f = none_some (rw (d, end_of, f) at is)
+        go None d false f = none_some (rw (d, end_of, f) at is)
 
     -- Where no action gains anything, nothing else can be built.
-    closed : ((i : ℕ) → i < A → gain j built now i ≡ none) → {f t : ℕ} → Built j s f t → bit built f ≡ true
+    closed : ((i : ℕ) → i < A → gain j built now i ≡ None) → {f t : ℕ} → Built j s f t → bit built f ≡ true
     closed c {f} (stands e) = v.from f e
     closed c {f} (made {t = t} i l a n m) = go (within (act i).add built) refl ((within_facts (act i).pre built).1 (λ g p. closed c (n g p)))
       where
@@ -93,12 +93,12 @@ module _ (j : Job) where
         go false w pre = let r = ready_some i l pre in none_some (sym (c i l) ∙ gain_some j built now i r.0 r.1 w)
 
     -- So a goal that is not built cannot be.
-    pub never_built : ((i : ℕ) → i < A → gain j built now i ≡ none) → (t : ℕ) → AllBuilt j s goal t → ⊥
+    pub never_built : ((i : ℕ) → i < A → gain j built now i ≡ None) → (t : ℕ) → AllBuilt j s goal t → ⊥
     never_built c t b = true≢false (sym ((within_facts goal built).1 (λ g p. closed c (b g p))) ∙ missing)
 
     -- ---- where action i has the soonest gain
 
-    module _ (g : Gain) (is : Soonest j built now A (some g)) where
+    module _ (g : Gain) (is : Soonest j built now A (Some g)) where
       abbrev i : ℕ
       i = is.0.0
 

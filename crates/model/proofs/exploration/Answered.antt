@@ -9,7 +9,8 @@ use mathlib.Core.Logic.{◌⊎◌, inl, inr}
 use lib.ListN.{length, length-map}
 use Rattle.model.specs.exploration.Key.{Key, Le, Lt}
 use Rattle.model.specs.exploration.System.{System, rank_of}
-use Rattle.model.specs.exploration.Equations.{Bound, unbounded, Within, Answer, plan, Entries, Explores, Uncut, Plan, NoGoal, Answers, with_plan, some_cut, none_cut}
+use Rattle.model.specs.exploration.Equations.{Bound, unbounded, Within, Answer, plan, Entries, Explores, Uncut, Plan, NoGoal, Answers, with_plan, some_cut}
+use Rattle.model.specs.exploration.Equations.{none_cut}
 use Rattle.model.specs.exploration.Explore.{Entry, Of, reached, solve}
 use Rattle.model.proofs.exploration.KeyLaws.{le_refl, le_trans, lt_le, le_antisym, lt_or_le, rank_zero, first_antisym}
 use Rattle.model.proofs.exploration.Laws.{Laws, Finite}

@@ -1,13 +1,12 @@
 -- The lists from which an exploration takes its next entry: all arrivals, those at new nodes, and the first of least key.
+use Rattle.std.proofs.Common.{Option, None, Some}
 use mathlib.Core.Path.{◌≡◌, refl, sym, ap, ◌∙◌, subst}
 use Prim.Native.Nat.{ℕ, zero, suc, ◌+◌, ◌≤◌, ◌<◌}
 use native.Mathlib.Omega.{arith}
 use native.Mathlib.Decide.{dec_lt}
 use mathlib.Core.Bool.{Bool, true, false, true≢false}
-use mathlib.Core.Option.{Option, none, some}
 use mathlib.Core.List.Memᴰ
-use mathlib.Core.List.Memᴰ.{head as here}
-use mathlib.Core.List.Memᴰ.{tail as there}
+use mathlib.Core.List.Memᴰ.{head as here, tail as there}
 use mathlib.Core.List.{List, [], ◌∷◌, ◌++◌, Memᴰ}
 use mathlib.Core.Logic.{◌⊎◌, inl, inr}
 use Rattle.model.specs.exploration.Key.{extend, Le, less}
@@ -25,19 +24,19 @@ module _ (S : System) where
   -- ---- all arrivals
 
   -- What holds of an entry after each action that leads somewhere holds of all its moves.
-  pub moves_all : (Q : Entry S → Type 0) (e : Entry S) → ((n : S.Node) (i : ℕ) → i < S.actions → S.step e.node i ≡ some n → Q (To e n i))
+  pub moves_all : (Q : Entry S → Type 0) (e : Entry S) → ((n : S.Node) (i : ℕ) → i < S.actions → S.step e.node i ≡ Some n → Q (To e n i))
       → (k j : ℕ) → j + k ≤ S.actions → All Q (moves S e k j)
   unfolding moves arrival
   moves_all Q e f zero j b = tt
   moves_all Q e f (suc k) j b = all_append _ (arrival S e j) _ (go (S.step e.node j) refl) (moves_all Q e f k (suc j) (omega arith))
     where
       go : (o : Option S.Node) → S.step e.node j ≡ o → All Q (arrival S e j)
-      go none p = rw (p, arrival) tt
-      go (some n) p = rw (p, arrival) (f n j (omega arith) p, tt)
+      go None p = rw (p, arrival) tt
+      go (Some n) p = rw (p, arrival) (f n j (omega arith) p, tt)
 
   -- The same for all arrivals from the uncut entries of a list.
   pub arrivals_all : (P Q : Entry S → Type 0)
-      → ((e : Entry S) (n : S.Node) (i : ℕ) → P e → is_cut S e ≡ false → i < S.actions → S.step e.node i ≡ some n → Q (To e n i))
+      → ((e : Entry S) (n : S.Node) (i : ℕ) → P e → is_cut S e ≡ false → i < S.actions → S.step e.node i ≡ Some n → Q (To e n i))
       → (L : List (Entry S)) → All P L → All Q (arrivals S L)
   unfolding arrivals
   arrivals_all P Q f [] h = tt
@@ -47,7 +46,7 @@ module _ (S : System) where
       go true c ih = rw (c, arrivals) ih
       go false c ih = rw (c, arrivals) (all_append _ (moves S e S.actions 0) (arrivals S L) (moves_all Q e (λ n i. f e n i h.0 c) S.actions 0 (omega arith)) ih)
 
-  moves_at : (P : Entry S → Type 0) (e : Entry S) (n : S.Node) (k j i : ℕ) → j ≤ i → i < j + k → S.step e.node i ≡ some n → All P (moves S e k j) → P (To e n i)
+  moves_at : (P : Entry S → Type 0) (e : Entry S) (n : S.Node) (k j i : ℕ) → j ≤ i → i < j + k → S.step e.node i ≡ Some n → All P (moves S e k j) → P (To e n i)
   unfolding moves arrival
   moves_at P e n zero j i lo hi s h = absurd (omega arith)
   moves_at P e n (suc k) j i lo hi s h = go (dec_lt j i) (λ l. moves_at P e n k (suc j) i l (omega arith) s (all_right P (arrival S e j) _ h))
@@ -61,7 +60,7 @@ module _ (S : System) where
 
   -- What holds of all arrivals holds of an uncut entry after an action that leads somewhere.
   pub arrivals_at : (P : Entry S → Type 0) (L : List (Entry S)) → All P (arrivals S L)
-      → {e : Entry S} {n : S.Node} {i : ℕ} → Memᴰ e L → is_cut S e ≡ false → i < S.actions → S.step e.node i ≡ some n → P (To e n i)
+      → {e : Entry S} {n : S.Node} {i : ℕ} → Memᴰ e L → is_cut S e ≡ false → i < S.actions → S.step e.node i ≡ Some n → P (To e n i)
   unfolding arrivals
   arrivals_at P [] h m c b s = absurd (Memᴰ.not-nil m)
   arrivals_at P (x ∷ L) h {e} {n} {i} m c b s = go (is_cut S x) refl (Memᴰ.cases_cons m) (λ h' m'. arrivals_at P L h' {e = e} {n = n} {i = i} m' c b s)

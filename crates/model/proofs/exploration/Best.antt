@@ -1,10 +1,9 @@
 -- What `answer` says of a list of entries whose paths are first: the best of the uncut goal entries, or that a node was cut, or none.
+use Rattle.std.proofs.Common.{Option, None, Some}
 use mathlib.Core.Path.{◌≡◌, refl, sym, ap, ◌∙◌, subst}
 use Prim.Native.Nat.{ℕ}
 use mathlib.Core.Bool.{Bool, true, false, true≢false}
-use mathlib.Core.Option.{Option, none, some}
-use mathlib.Core.List.Memᴰ.{head as here}
-use mathlib.Core.List.Memᴰ.{tail as there}
+use mathlib.Core.List.Memᴰ.{head as here, tail as there}
 use mathlib.Core.List.{List, [], ◌∷◌, Memᴰ}
 use mathlib.Core.Logic.{inl, inr}
 use lib.ListN.{length}
@@ -37,28 +36,28 @@ module _ (S : System) where
 
   -- what `best_goal` has of a list
   abbrev BestOf : List (Entry S) → Option (Entry S) → Type 0
-  BestOf L none = All (λ y. AtGoal y → ⊥) L
-  BestOf L (some e) = Memᴰ e L × AtGoal e × All (λ y. AtGoal y → Beats e y) L
+  BestOf L None = All (λ y. AtGoal y → ⊥) L
+  BestOf L (Some e) = Memᴰ e L × AtGoal e × All (λ y. AtGoal y → Beats e y) L
 
   skip : (x : Entry S) (L : List (Entry S)) (o : Option (Entry S)) → (AtGoal x → ⊥) → BestOf L o → BestOf (x ∷ L) o
-  skip x L none n b = (n, b)
-  skip x L (some y) n b = (there b.0, b.1, (λ g. absurd (n g), b.2))
+  skip x L None n b = (n, b)
+  skip x L (Some y) n b = (there b.0, b.1, (λ g. absurd (n g), b.2))
 
   better_best : (x : Entry S) (L : List (Entry S)) (o : Option (Entry S)) → AtGoal x → Sized S x → All (λ y. AtGoal y → Sized S y) L → BestOf L o → BestOf (x ∷ L) (better S x o)
   unfolding better
-  better_best x L none g s z b = (here refl, g, ((λ h. (le_refl _, λ e. inl refl)), all_map _ _ (λ y n h. absurd (n h)) L b))
-  better_best x L (some y) g s z b = go (less x.key y.key) (less y.key x.key) (earlier x.path y.path) refl refl refl
+  better_best x L None g s z b = (here refl, g, ((λ h. (le_refl _, λ e. inl refl)), all_map _ _ (λ y n h. absurd (n h)) L b))
+  better_best x L (Some y) g s z b = go (less x.key y.key) (less y.key x.key) (earlier x.path y.path) refl refl refl
     where
-      x_wins : Beats x y → BestOf (x ∷ L) (some x)
+      x_wins : Beats x y → BestOf (x ∷ L) (Some x)
       x_wins w = (here refl, g, ((λ h. (le_refl _, λ e. inl refl)), all_map _ _ (λ v f h. beats_trans x y v w (f h)) L b.2))
 
-      y_wins : Beats y x → BestOf (x ∷ L) (some y)
+      y_wins : Beats y x → BestOf (x ∷ L) (Some y)
       y_wins w = (there b.0, b.1, ((λ h. w), b.2))
 
       lengths : y.key ≡ x.key → length y.path ≡ length x.path
       lengths e = all_at _ L b.0 z b.1 ∙ ap (λ (k : Key). k.steps) e ∙ sym s
 
-      go : (p q r : Bool) → less x.key y.key ≡ p → less y.key x.key ≡ q → earlier x.path y.path ≡ r → BestOf (x ∷ L) (better S x (some y))
+      go : (p q r : Bool) → less x.key y.key ≡ p → less y.key x.key ≡ q → earlier x.path y.path ≡ r → BestOf (x ∷ L) (better S x (Some y))
       go true q r e f h = rw (e, better) (x_wins (lower_beats x y (less_yes _ _ e)))
       go false true r e f h = rw (e, f, better) (y_wins (lower_beats y x (less_yes _ _ f)))
       go false false true e f h = rw (e, f, h, better) (x_wins (less_no _ _ f, λ k. inr h))
@@ -102,7 +101,7 @@ module _ (S : System) where
     goal_entry : {n : S.Node} {k : Key} (u : Uncut S (Of S M) n k) → S.goal n ≡ true → AtGoal u.1.0
     goal_entry u g = (ap S.goal u.1.2 ∙ g, ap S.cut u.1.4 ∙ u.2)
 
-    module _ (e : Entry S) (best : BestOf M (some e)) where
+    module _ (e : Entry S) (best : BestOf M (Some e)) where
       best_least : {n : S.Node} {k : Key} → Uncut S (Of S M) n k → S.goal n ≡ true → Le e.key k
       best_least u g = subst (Le e.key) u.1.3 (all_at _ M u.1.1 best.2 (goal_entry u g)).0
 
@@ -130,8 +129,8 @@ module _ (S : System) where
     answer_answers = go (best_goal S M) (has_cut S M) refl refl (best_goal_lem M (all_mem _ M (λ y m g. sym (path_steps S (paths y m g.1)))))
       where
         go : (o : Option (Entry S)) (b : Bool) → best_goal S M ≡ o → has_cut S M ≡ b → BestOf M (best_goal S M) → Answers S (Of S M) (answer S M)
-        go (some e) b p q k = rw (p, answer) (with_plan (plan_of_best e (rw p at k)))
-        go none b p q k = no_goal_lem b q (rw p at k)
+        go (Some e) b p q k = rw (p, answer) (with_plan (plan_of_best e (rw p at k)))
+        go None b p q k = no_goal_lem b q (rw p at k)
           where
             no_goal_lem : (b : Bool) → has_cut S M ≡ b → All (λ y. AtGoal y → ⊥) M → Answers S (Of S M) (answer S M)
             no_goal_lem true q n = let c = some_is_cut M q in rw (p, q, answer) (some_cut (λ m k u g. all_at _ M u.1.1 n (goal_entry u g)) (c.0.node, c.0.key, c.0.hints, (c.0, c.1, refl, refl, refl), c.2))

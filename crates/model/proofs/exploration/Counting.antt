@@ -5,8 +5,7 @@ use native.Mathlib.Omega.{arith}
 use native.Mathlib.Decide.{dec_lt}
 use mathlib.Core.Bool.{Bool, true, false, true≢false}
 use mathlib.Core.List.Memᴰ
-use mathlib.Core.List.Memᴰ.{head as here}
-use mathlib.Core.List.Memᴰ.{tail as there}
+use mathlib.Core.List.Memᴰ.{head as here, tail as there}
 use mathlib.Core.List.{List, [], ◌∷◌, Memᴰ}
 use mathlib.Core.Logic.{◌⊎◌, inl, inr}
 use lib.ListN.{length}

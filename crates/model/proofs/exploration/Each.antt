@@ -1,7 +1,6 @@
 -- Properties of all elements of a list.
 use mathlib.Core.Path.{refl, sym, subst}
-use mathlib.Core.List.Memᴰ.{head as here}
-use mathlib.Core.List.Memᴰ.{tail as there}
+use mathlib.Core.List.Memᴰ.{head as here, tail as there}
 use mathlib.Core.List.{List, [], ◌∷◌, ◌++◌, Memᴰ}
 
 module _ {A : Type 0} where

@@ -1,8 +1,8 @@
 -- The path of every uncut entry that `reached` has is a path through uncut entries, and the first of its node and key.
+use Rattle.std.proofs.Common.{Option, None, Some}
 use mathlib.Core.Path.{◌≡◌, refl, sym, ap, ◌∙◌, subst}
 use Prim.Native.Nat.{ℕ}
 use mathlib.Core.Bool.{false}
-use mathlib.Core.Option.{Option, none, some}
 use mathlib.Core.List.Memᴰ
 use mathlib.Core.List.{List, [], ◌∷◌, ◌++◌, Memᴰ}
 use mathlib.Core.Logic.{◌⊎◌, inl, inr}
@@ -65,7 +65,7 @@ module _ (S : System) (laws : Laws S) (m0 : S.Node) (starts : Starts S m0) (M : 
       go (inl z) v ih = absurd (extend_not_zero k (S.cost i) (sym b ∙ ap (λ (z : Entry S). z.key) z))
       go (inr g) v ih =
           let d = v.1.0 in
-          let step : S.step d.node i ≡ some n = ap (λ (z : S.Node). S.step z i) v.1.2 ∙ s in
+          let step : S.step d.node i ≡ Some n = ap (λ (z : S.Node). S.step z i) v.1.2 ∙ s in
           let f : First e.path (d.path ++ (i ∷ [])) = arrivals_at S (λ x. At S e x → First e.path x.path) M g.first v.1.1 (ap S.cut v.1.4 ∙ v.2) bound step
           (sym a, ap (λ (z : Key). extend z (S.cost i)) v.1.3 ∙ sym b) in
           let l : length d.path ≡ length p = (all_at _ M v.1.1 inv.fit).1 ∙ ap (λ (z : Key). z.steps) v.1.3 ∙ path_steps S r in
@@ -77,8 +77,8 @@ module _ (S : System) (laws : Laws S) (fin : Finite S) where
   reached_path e m c = go S.start refl
     where
       go : (o : Option S.Node) → S.start ≡ o → Path S (Of S (reached S)) e.path e.node e.key
-      go none s = absurd (Memᴰ.not-nil (subst (Memᴰ e) (reached_none S s) m))
-      go (some m0) s = whole S laws m0 s (reached S) (reached_inv S laws fin s).0 e.key e m refl c
+      go None s = absurd (Memᴰ.not-nil (subst (Memᴰ e) (reached_none S s) m))
+      go (Some m0) s = whole S laws m0 s (reached S) (reached_inv S laws fin s).0 e.key e m refl c
 
   -- The path of an entry is the first of all paths to its node with its key.
   pub reached_first : (e : Entry S) → Memᴰ e (reached S) → (q : List ℕ) → Path S (Of S (reached S)) q e.node e.key → First e.path q

@@ -1,9 +1,9 @@
 -- Enough fuel: with as many entries allowed as there are codes of nodes, `explore` comes to its end.
+use Rattle.std.proofs.Common.{Option, None, Some}
 use mathlib.Core.Path.{◌≡◌, refl, sym, ap, ◌∙◌, subst}
 use Prim.Native.Nat.{ℕ, zero, suc, ◌+◌, ◌≤◌, ◌<◌}
 use native.Mathlib.Omega.{arith}
 use mathlib.Core.Bool.{false, true≢false}
-use mathlib.Core.Option.{Option, none, some}
 use mathlib.Core.List.{List, [], ◌∷◌, map}
 use lib.ListN.{length, length-map}
 use lib.Dec.{eqb}
@@ -20,11 +20,11 @@ use Rattle.model.proofs.exploration.Invariant.{Distinct, Complete, Inv, inv_next
 
 -- `reached`, by what the start is
 by_start : (S : System) {o : Option S.Node} → S.start ≡ o
-    → reached S ≡ elim o as (λ x. List (Entry S)) [ none ↦ [] | some m ↦ elim (explore S S.bound (start_entry S m ∷ [])) [ all_of es ↦ es | no_more ↦ [] ] ]
+    → reached S ≡ elim o as (λ x. List (Entry S)) [ None ↦ [] | Some m ↦ elim (explore S S.bound (start_entry S m ∷ [])) [ all_of es ↦ es | no_more ↦ [] ] ]
 unfolding reached
-by_start S e = ap (λ (o : Option S.Node). elim o as (λ x. List (Entry S)) [ none ↦ [] | some m ↦ elim (explore S S.bound (start_entry S m ∷ [])) [ all_of es ↦ es | no_more ↦ [] ] ]) e
+by_start S e = ap (λ (o : Option S.Node). elim o as (λ x. List (Entry S)) [ None ↦ [] | Some m ↦ elim (explore S S.bound (start_entry S m ∷ [])) [ all_of es ↦ es | no_more ↦ [] ] ]) e
 
-pub reached_none : (S : System) → S.start ≡ none → reached S ≡ []
+pub reached_none : (S : System) → S.start ≡ None → reached S ≡ []
 reached_none S e = by_start S e
 
 module _ (S : System) (laws : Laws S) (fin : Finite S) where

@@ -1,8 +1,8 @@
 -- What a system with an estimate keeps of the system without: its laws, its finiteness, and the runs that lead to a goal.
+use Rattle.std.proofs.Common.{Option, None, Some}
 use mathlib.Core.Path.{◌≡◌, refl, sym, ap, ◌∙◌}
 use Prim.Native.Nat.{ℕ, ◌+◌, ◌≤◌, ◌<◌}
 use mathlib.Core.Bool.{Bool, true, false, true≢false}
-use mathlib.Core.Option.{Option, none, some}
 use mathlib.Core.List.{List}
 use mathlib.Core.Logic.{◌↔◌}
 use Rattle.model.specs.exploration.Key.{Key}
@@ -13,26 +13,26 @@ use Rattle.model.proofs.exploration.Laws.{Laws, Finite, HintLaws}
 use Rattle.model.proofs.exploration.Runs.{Run, stop, on}
 use Rattle.model.proofs.exploration.Optimality.{GoalRun}
 
-same_node : {N : Type 0} {m n : N} → some m ≡ some n → m ≡ n
+same_node : {N : Type 0} {m n : N} → Some m ≡ Some n → m ≡ n
 same_node h = cc
 
 -- A node is kept exactly if it is there and passes.
-pub kept_some : {N : Type 0} (test : N → Bool) (o : Option N) (n : N) → (kept test o ≡ some n) ↔ ((o ≡ some n) × (test n ≡ true))
+pub kept_some : {N : Type 0} (test : N → Bool) (o : Option N) (n : N) → (kept test o ≡ Some n) ↔ ((o ≡ Some n) × (test n ≡ true))
 unfolding kept
-kept_some test none n = (λ h. none_some h, λ h. none_some h.0)
-kept_some test (some m) n = go (test m) refl
+kept_some test None n = (λ h. none_some h, λ h. none_some h.0)
+kept_some test (Some m) n = go (test m) refl
   where
-    go : (b : Bool) → test m ≡ b → (kept test (some m) ≡ some n) ↔ ((some m ≡ some n) × (test n ≡ true))
+    go : (b : Bool) → test m ≡ b → (kept test (Some m) ≡ Some n) ↔ ((Some m ≡ Some n) × (test n ≡ true))
     go true e = rw (e, kept) (λ h. (h, ap test (sym (same_node h)) ∙ e), λ h. h.0)
     go false e = rw (e, kept) (λ h. none_some h, λ h. absurd (true≢false (sym h.1 ∙ ap test (sym (same_node h.0)) ∙ e)))
 
 -- Where there is no node, none is kept.
-pub kept_none : {N : Type 0} (test : N → Bool) {o : Option N} → o ≡ none → kept test o ≡ none
+pub kept_none : {N : Type 0} (test : N → Bool) {o : Option N} → o ≡ None → kept test o ≡ None
 unfolding kept
 kept_none test e = ap (kept test) e
 
 -- A node that does not pass is not kept.
-pub kept_out : {N : Type 0} (test : N → Bool) {o : Option N} {n : N} → o ≡ some n → test n ≡ false → kept test o ≡ none
+pub kept_out : {N : Type 0} (test : N → Bool) {o : Option N} {n : N} → o ≡ Some n → test n ≡ false → kept test o ≡ None
 unfolding kept
 kept_out test e f = rw (e, kept, f)
 
@@ -40,11 +40,11 @@ module _ (S : System) (est : S.Node → Option ℕ) where
   abbrev G : System
   G = guided S est
 
-  pub step_kept : (m n : S.Node) (i : ℕ) → G.step m i ≡ some n → (S.step m i ≡ some n) × (has (est n) ≡ true)
+  pub step_kept : (m n : S.Node) (i : ℕ) → G.step m i ≡ Some n → (S.step m i ≡ Some n) × (has (est n) ≡ true)
   step_kept m n i e = (kept_some (λ z. has (est z)) (S.step m i) n).0 e
 
   -- the laws, if the estimate is consistent and nothing is left at a goal
-  pub guided_laws : Laws S → ((m n : S.Node) (i : ℕ) → i < S.actions → G.step m i ≡ some n → value_of (est m) ≤ S.cost i + value_of (est n))
+  pub guided_laws : Laws S → ((m n : S.Node) (i : ℕ) → i < S.actions → G.step m i ≡ Some n → value_of (est m) ≤ S.cost i + value_of (est n))
       → ((n : S.Node) → S.goal n ≡ true → value_of (est n) ≡ 0) → Laws G
   guided_laws laws c g = record {
     same_eq = laws.same_eq;
@@ -77,7 +77,7 @@ module _ (S : System) (est : S.Node → Option ℕ) where
     dead = hl.dead;
   }
 
-  module _ (back : (m n : S.Node) (i : ℕ) → i < S.actions → S.step m i ≡ some n → has (est n) ≡ true → has (est m) ≡ true) where
+  module _ (back : (m n : S.Node) (i : ℕ) → i < S.actions → S.step m i ≡ Some n → has (est n) ≡ true → has (est m) ≡ true) where
     -- Runs to nodes with an estimate are runs in both.
     run_to : {m t : S.Node} {k l : Key} {p : List ℕ} → Run S m k p t l → has (est t) ≡ true → Run G m k p t l × (has (est m) ≡ true)
     run_to stop e = (stop, e)

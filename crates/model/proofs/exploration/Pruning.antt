@@ -1,14 +1,14 @@
 -- Nodes from which no goal can be reached may be left out: the plans stay the same.
+use Rattle.std.proofs.Common.{Option, Some}
 use mathlib.Core.Path.{◌≡◌, sym, subst}
 use Prim.Native.Nat.{ℕ, ◌<◌}
 use mathlib.Core.Bool.{Bool, true}
-use mathlib.Core.Option.{Option, some}
 use mathlib.Core.List.{List}
 use mathlib.Core.Logic.{◌⊎◌, inl, inr}
 use Rattle.model.specs.exploration.Key.{Key}
 use Rattle.model.specs.exploration.System.{System}
-use Rattle.model.specs.exploration.Equations.{unbounded, Answer, plan, no_plan, Entries, Starts, Arrives, Explores}
-use Rattle.model.specs.exploration.Equations.{Path, begin, onward, Plan, NoGoal, SomeCut, Answers, with_plan, some_cut, none_cut}
+use Rattle.model.specs.exploration.Equations.{unbounded, Answer, plan, no_plan, Entries, Starts, Arrives, Explores, Path, begin, onward, Plan, NoGoal, SomeCut}
+use Rattle.model.specs.exploration.Equations.{Answers, with_plan, some_cut, none_cut}
 use Rattle.model.specs.exploration.Explore.{Of, reached, solve}
 use Rattle.model.specs.exploration.Guided.{has, guided, CutWithEstimate, Stays, plan_stays, twelve_stays, eleven_stays, eleven_twelve, PlansStay}
 use Rattle.model.proofs.exploration.Laws.{Laws, Finite}
@@ -20,7 +20,7 @@ use Rattle.model.proofs.exploration.Guiding.{kept_some}
 
 module _ (S : System) (est : S.Node → Option ℕ)
     -- what leads to a kept node is kept, and every goal is
-    (back : (m n : S.Node) (i : ℕ) → i < S.actions → S.step m i ≡ some n → has (est n) ≡ true → has (est m) ≡ true)
+    (back : (m n : S.Node) (i : ℕ) → i < S.actions → S.step m i ≡ Some n → has (est n) ≡ true → has (est m) ≡ true)
     (goals : (n : S.Node) → S.goal n ≡ true → has (est n) ≡ true) where
   abbrev keep : S.Node → Bool
   keep n = has (est n)

@@ -1,8 +1,8 @@
 -- Runs by action numbers, and the runs by which the entries of a solution are reached.
+use Rattle.std.proofs.Common.{Some}
 use mathlib.Core.Path.{◌≡◌, refl, sym, subst}
 use Prim.Native.Nat.{ℕ, suc, ◌+◌, ◌<◌}
 use native.Mathlib.Omega.{arith}
-use mathlib.Core.Option.{some}
 use mathlib.Core.List.{List, [], ◌∷◌, ◌++◌}
 use mathlib.Core.Logic.{◌⊎◌, inl, inr}
 use lib.ListN.{length}
@@ -20,7 +20,7 @@ module _ (S : System) where
   -- a run by action numbers, from a node with a key to a node with a key
   pub data Run : S.Node → Key → List ℕ → S.Node → Key → Type 0 where
     stop : {m : S.Node} {k : Key} → Run m k [] m k
-    on : {m n t : S.Node} {k j : Key} {as' : List ℕ} (i : ℕ) → i < S.actions → S.step m i ≡ some n → Run n (extend k (S.cost i)) as' t j → Run m k (i ∷ as') t j
+    on : {m n t : S.Node} {k j : Key} {as' : List ℕ} (i : ℕ) → i < S.actions → S.step m i ≡ Some n → Run n (extend k (S.cost i)) as' t j → Run m k (i ∷ as') t j
 
   pub run_append : {m n t : S.Node} {k j l : Key} {as' bs : List ℕ} → Run m k as' n j → Run n j bs t l → Run m k (as' ++ bs) t l
   run_append stop r = r

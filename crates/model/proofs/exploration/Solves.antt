@@ -1,9 +1,9 @@
 -- The entries of all nodes reached solve the equations of exploration.
+use Rattle.std.proofs.Common.{Option, None, Some}
 use mathlib.Core.Path.{◌≡◌, refl, sym, ap, ◌∙◌, subst}
 use Prim.Native.Nat.{ℕ, ◌<◌}
 use native.Mathlib.Omega.{arith}
 use mathlib.Core.Bool.{true, false, true≢false}
-use mathlib.Core.Option.{Option, none, some}
 use mathlib.Core.List.Memᴰ
 use mathlib.Core.List.{List, [], ◌∷◌, Memᴰ}
 use mathlib.Core.Logic.{◌⊎◌, inl, inr, ◌↔◌}
@@ -26,7 +26,7 @@ module _ (S : System) where
   to_set M P f {n} {k} {h} a =
       let e = a.entry.0 in
       let cut : is_cut S e ≡ false = ap S.cut a.entry.4 ∙ a.uncut in
-      let step : S.step e.node a.action ≡ some n = ap (λ (z : S.Node). S.step z a.action) a.entry.2 ∙ a.leads in
+      let step : S.step e.node a.action ≡ Some n = ap (λ (z : S.Node). S.step z a.action) a.entry.2 ∙ a.leads in
       let p = arrivals_at S (λ x. P x.node x.key x.hints) M f a.entry.1 cut a.in_range step in
       subst (λ (z : Key). P n z h) (ap (λ (z : Key). extend z (S.cost a.action)) a.entry.3 ∙ sym a.key_is)
       (subst (λ (z : S.Hints). P n (extend e.key (S.cost a.action)) z) (ap (λ (z : S.Hints). S.carry z n a.action) a.entry.4 ∙ sym a.hints_are) p)
@@ -35,7 +35,7 @@ module _ (S : System) where
   all_arrive : (M : List (Entry S)) → All (λ x. Arrives S (Of S M) x.node x.key x.hints) (arrivals S M)
   all_arrive M = arrivals_all S (λ e. Memᴰ e M) _ one M (all_mem _ M (λ y m. m))
     where
-      one : (e : Entry S) (n : S.Node) (i : ℕ) → Memᴰ e M → is_cut S e ≡ false → i < S.actions → S.step e.node i ≡ some n
+      one : (e : Entry S) (n : S.Node) (i : ℕ) → Memᴰ e M → is_cut S e ≡ false → i < S.actions → S.step e.node i ≡ Some n
           → Arrives S (Of S M) n (extend e.key (S.cost i)) (S.carry e.hints n i)
       one e n i m c b s = arrives_by S (Of S M) i (e, m, refl, refl, refl) b c s
 
@@ -62,7 +62,7 @@ module _ (S : System) where
 
       start_at : {e : Entry S} {n : S.Node} → e ≡ start_entry S m0 → e.node ≡ n → Starts S n
       unfolding start_entry
-      start_at p q = starts ∙ ap some (sym (ap (λ (z : Entry S). z.node) p) ∙ q)
+      start_at p q = starts ∙ ap Some (sym (ap (λ (z : Entry S). z.node) p) ∙ q)
 
       solve_start : {n : S.Node} → Starts S n → Of S M n zero_key S.start_hints
       unfolding start_entry
@@ -122,7 +122,7 @@ module _ (S : System) where
       }
 
   -- Where no start node is, no entry solves the equations.
-  none_solves : S.start ≡ none → Explores S unbounded (Of S [])
+  none_solves : S.start ≡ None → Explores S unbounded (Of S [])
   none_solves e = record {
     start = λ s. let z : ◌≡◌ {A = ℕ} 0 1 = cc in absurd (omega arith);
     complete = λ w a. absurd (Memᴰ.not-nil a.entry.1);
@@ -138,5 +138,5 @@ pub reached_solves : (S : System) → Laws S → Finite S → Explores S unbound
 reached_solves S laws fin = go S.start refl
   where
     go : (o : Option S.Node) → S.start ≡ o → Explores S unbounded (Of S (reached S))
-    go none e = subst (λ (M : List (Entry S)). Explores S unbounded (Of S M)) (sym (reached_none S e)) (none_solves S e)
-    go (some m) e = let i = reached_inv S laws fin e in solves S laws m e (reached S) i.0 i.1
+    go None e = subst (λ (M : List (Entry S)). Explores S unbounded (Of S M)) (sym (reached_none S e)) (none_solves S e)
+    go (Some m) e = let i = reached_inv S laws fin e in solves S laws m e (reached S) i.0 i.1

@@ -1,14 +1,14 @@
 -- A step out of an entry that is not cut is an arrival.
+use Rattle.std.proofs.Common.{Some}
 use mathlib.Core.Path.{◌≡◌, refl}
 use mathlib.Core.Bool.{false}
-use mathlib.Core.Option.{some}
 use Prim.Native.Nat.{ℕ, ◌<◌}
 use Rattle.model.specs.exploration.Key.{Key, extend}
 use Rattle.model.specs.exploration.System.{System}
 use Rattle.model.specs.exploration.Equations.{Entries, Arrives}
 
 abbrev pub arrives_by : (S : System) (L : Entries S) {m n : S.Node} {k : Key} {h : S.Hints} (i : ℕ) → L m k h → i < S.actions → S.cut h ≡ false
-    → S.step m i ≡ some n → Arrives S L n (extend k (S.cost i)) (S.carry h n i)
+    → S.step m i ≡ Some n → Arrives S L n (extend k (S.cost i)) (S.carry h n i)
 arrives_by S L {m} {n} {k} {h} i l b c s = record {
   source = m;
   key = k;

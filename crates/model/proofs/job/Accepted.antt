@@ -1,4 +1,5 @@
 -- An accepted job keeps the limits that its search relies on.
+use Rattle.model.specs.Verdict.{no_refusal}
 use mathlib.Core.Path.{◌≡◌, refl, sym, ap, ◌∙◌}
 use Prim.Native.Nat.{ℕ, ◌+◌, ◌-◌, ◌^◌, ◌≤◌, ◌<◌}
 use native.Mathlib.Omega.{arith}
@@ -10,16 +11,15 @@ use lib.Dec.{leb}
 use lib.ListN.{length, get_or, drop, length-drop, get_or-eq_default}
 use lib.Pow.{pow_mono}
 use borrow.Author.Tests.{ltb-true, leb-true}
-use Rattle.model.specs.declared.Verdict.TheVariants.{Fine}
 use Rattle.model.specs.Bits.{number_at}
 use Rattle.model.specs.logic.Formula.{Formula}
 use Rattle.model.specs.logic.Parts.{most_parts, Part, parts_of}
 use Rattle.model.specs.logic.Reading.{Parsed, formula, wrong}
 use Rattle.model.specs.job.Job.{Job, Action, no_action, action_of, list_of}
-use Rattle.model.specs.job.Layout.{set_bytes, set_count, fact_count, action_count, constraint_count, hint_count, pair_offset, set_offset, action_at}
-use Rattle.model.specs.job.Layout.{formula_in, formula_at, job_of}
-use Rattle.model.specs.job.Decoding.{counts_in_range, parts_verdict, formula_verdict, head_verdict, pairs_verdict}
-use Rattle.model.specs.job.Decoding.{set_verdict, action_verdict, task_verdict, formulas_verdict, job_verdict}
+use Rattle.model.specs.job.Layout.{set_bytes, set_count, fact_count, action_count, constraint_count, hint_count, pair_offset, set_offset, action_at, formula_in}
+use Rattle.model.specs.job.Layout.{formula_at, job_of}
+use Rattle.model.specs.job.Decoding.{counts_in_range, parts_verdict, formula_verdict, head_verdict, pairs_verdict, set_verdict, action_verdict, task_verdict}
+use Rattle.model.specs.job.Decoding.{formulas_verdict, job_verdict}
 use Rattle.model.proofs.exploration.Each.{All}
 use Rattle.model.proofs.Tests.{and_both}
 use Rattle.model.proofs.job.Forms.{plain_there}
@@ -78,7 +78,7 @@ pub record FineHead (bytes : List ℕ) : Type 0 where
   pub few_hints : hint_count bytes ≤ 8
 
 -- What passes the checks of a section is a formula.
-pub formula_fine : (o : ℕ) (x : Parsed) → formula_verdict o x ≡ Fine → (φ : Formula) × (n : ℕ) × (x ≡ formula φ n)
+pub formula_fine : (o : ℕ) (x : Parsed) → formula_verdict o x ≡ no_refusal → (φ : Formula) × (n : ℕ) × (x ≡ formula φ n)
 unfolding formula_verdict
 formula_fine o (formula φ n) h = (φ, n, refl)
 formula_fine o (wrong p) h = absurd (bad_not_fine h)
@@ -86,7 +86,7 @@ formula_fine o (wrong p) h = absurd (bad_not_fine h)
 no_seventh : (ps : List Part) → drop most_parts ps ≡ [] → length ps ≤ most_parts
 no_seventh ps e = let l : length ps - most_parts ≡ 0 = sym (length-drop most_parts ps) ∙ ap length e in omega arith
 
-parts_few : (o : ℕ) (ps : List Part) → parts_verdict o ps ≡ Fine → length ps ≤ most_parts
+parts_few : (o : ℕ) (ps : List Part) → parts_verdict o ps ≡ no_refusal → length ps ≤ most_parts
 unfolding parts_verdict
 parts_few o ps h = go (drop most_parts ps) refl
   where
@@ -95,7 +95,7 @@ parts_few o ps h = go (drop most_parts ps) refl
     go (q ∷ qs) e = absurd (bad_not_fine (rw (e, parts_verdict) at h))
 
 module _ (bytes : List ℕ) where
-  pub head_fine : head_verdict bytes ≡ Fine → FineHead bytes
+  pub head_fine : head_verdict bytes ≡ no_refusal → FineHead bytes
   unfolding head_verdict
   head_fine h = record {
     whole = leb-true 4 (length bytes) tests.0;
@@ -114,12 +114,12 @@ module _ (bytes : List ℕ) where
       counts = counts_fine (fact_count bytes) (action_count bytes) tests.1
 
   -- An accepted set has no bit 64 or above.
-  set_lt : fact_count bytes ≤ 64 → (o : ℕ) → set_verdict bytes o ≡ Fine → number_at set_bytes bytes o < 2 ^ 64
+  set_lt : fact_count bytes ≤ 64 → (o : ℕ) → set_verdict bytes o ≡ no_refusal → number_at set_bytes bytes o < 2 ^ 64
   unfolding set_verdict
   set_lt v o h = lt_of_lt_of_le (ltb-true (number_at set_bytes bytes o) (2 ^ fact_count bytes) ((unless_fine _ 3 o).0 h)) (pow_mono v)
 
   -- A section that passes holds its formula, which has no more carried parts than it may.
-  pub section_fine : (o i : ℕ) → formula_verdict o (formula_in bytes i) ≡ Fine
+  pub section_fine : (o i : ℕ) → formula_verdict o (formula_in bytes i) ≡ no_refusal
       → ((n : ℕ) × (formula_in bytes i ≡ formula (formula_at bytes i) n)) × (length (parts_of (formula_at bytes i)) ≤ most_parts)
   unfolding formula_verdict formula_at
   section_fine o i h = go (formula_in bytes i) refl
@@ -132,7 +132,7 @@ module _ (bytes : List ℕ) where
       go (wrong p) e = absurd (bad_not_fine (rw (e, formula_verdict) at h))
 
   -- Each set of each action of an accepted task has no bit 64 or above.
-  sets-lt : fact_count bytes ≤ 64 → task_verdict bytes ≡ Fine → (i k : ℕ) → i < action_count bytes → k < set_count bytes
+  sets-lt : fact_count bytes ≤ 64 → task_verdict bytes ≡ no_refusal → (i k : ℕ) → i < action_count bytes → k < set_count bytes
       → number_at set_bytes bytes (set_offset bytes i k) < 2 ^ 64
   unfolding task_verdict action_verdict
   sets-lt v h i k l m =
@@ -142,12 +142,12 @@ module _ (bytes : List ℕ) where
       set_lt v (set_offset bytes i k) ((in_turn_fine (set_count bytes) (λ j. set_verdict bytes (set_offset bytes i j))).0 c k m)
 
   -- The facts that an accepted action adds are below 64.
-  action_add : fact_count bytes ≤ 64 → task_verdict bytes ≡ Fine → (i : ℕ) → i < action_count bytes → (action_at bytes i).add < 2 ^ 64
+  action_add : fact_count bytes ≤ 64 → task_verdict bytes ≡ no_refusal → (i : ℕ) → i < action_count bytes → (action_at bytes i).add < 2 ^ 64
   unfolding action_at
   action_add v h i l = sets-lt v h i 1 l (omega (arith, plain_there bytes))
 
   -- So are those of every action number: an action that the job does not have adds none.
-  add_below : fact_count bytes ≤ 64 → task_verdict bytes ≡ Fine → (i : ℕ) → (action_of (job_of bytes) i).add < 2 ^ 64
+  add_below : fact_count bytes ≤ 64 → task_verdict bytes ≡ no_refusal → (i : ℕ) → (action_of (job_of bytes) i).add < 2 ^ 64
   unfolding action_of job_of no_action
   add_below v h i = go (dec_lt i (action_count bytes))
     where
@@ -161,8 +161,8 @@ module _ (bytes : List ℕ) where
           rw (get_or-eq_default list no_action e) (omega arith)
 
   -- The checks of an accepted job, one after the other.
-  pub accepted_checks : job_verdict bytes ≡ Fine
-      → (head_verdict bytes ≡ Fine) × (pairs_verdict bytes ≡ Fine) × (task_verdict bytes ≡ Fine) × (formulas_verdict bytes ≡ Fine)
+  pub accepted_checks : job_verdict bytes ≡ no_refusal
+      → (head_verdict bytes ≡ no_refusal) × (pairs_verdict bytes ≡ no_refusal) × (task_verdict bytes ≡ no_refusal) × (formulas_verdict bytes ≡ no_refusal)
   unfolding job_verdict
   accepted_checks h =
       let p = (or_else_fine (head_verdict bytes) _).0 h in
@@ -171,13 +171,13 @@ module _ (bytes : List ℕ) where
       (p.0, q.0, r.0, r.1)
 
   -- Each formula of an accepted job passes.
-  pub each_formula : job_verdict bytes ≡ Fine → (i : ℕ) → i < constraint_count bytes + hint_count bytes
-      → formula_verdict (pair_offset bytes (1 + i)) (formula_in bytes (1 + i)) ≡ Fine
+  pub each_formula : job_verdict bytes ≡ no_refusal → (i : ℕ) → i < constraint_count bytes + hint_count bytes
+      → formula_verdict (pair_offset bytes (1 + i)) (formula_in bytes (1 + i)) ≡ no_refusal
   unfolding formulas_verdict
   each_formula h = (in_turn_fine (constraint_count bytes + hint_count bytes) _).0 (accepted_checks h).3
 
   -- A job that is accepted is a proper one.
-  pub accepted_proper : job_verdict bytes ≡ Fine → ProperJob (job_of bytes)
+  pub accepted_proper : job_verdict bytes ≡ no_refusal → ProperJob (job_of bytes)
   unfolding job_of task_verdict
   accepted_proper h = record {
     start_lt = set_lt head.few_facts (pair_offset bytes 0) ((or_else_fine (set_verdict bytes (pair_offset bytes 0)) _).0 task).0;
@@ -192,7 +192,7 @@ module _ (bytes : List ℕ) where
       head : FineHead bytes
       head = head_fine (accepted_checks h).0
 
-      task : task_verdict bytes ≡ Fine
+      task : task_verdict bytes ≡ no_refusal
       task = (accepted_checks h).2
 
       few : (i : ℕ) → i < constraint_count bytes + hint_count bytes → length (parts_of (formula_at bytes (1 + i))) ≤ most_parts

@@ -12,7 +12,8 @@ use Rattle.model.specs.job.Job.{Job}
 use Rattle.model.specs.task.Plan.{allowed, meets_hints, cost_of, Worse, Best, MeetsHints}
 use Rattle.model.specs.exploration.Key.{Key, Le, earlier, First}
 use Rattle.model.specs.exploration.System.{System}
-use Rattle.model.specs.exploration.Equations.{unbounded, Answer, plan, no_plan, Entries, Explores, Plan, NoGoal, SomeCut, Answers, with_plan, some_cut, none_cut}
+use Rattle.model.specs.exploration.Equations.{unbounded, Answer, plan, no_plan, Entries, Explores, Plan, NoGoal, SomeCut, Answers, with_plan, some_cut}
+use Rattle.model.specs.exploration.Equations.{none_cut}
 use Rattle.model.specs.exploration.Explore.{Of, reached}
 use Rattle.model.specs.search.Node.{some_dead, same_numbers}
 use Rattle.model.specs.search.JobSystem.{system_of, solve_job}

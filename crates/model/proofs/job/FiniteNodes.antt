@@ -1,9 +1,9 @@
 -- A proper job has finitely many nodes: a state and at most 8 residuals of 64 bits each, as digits of one number.
+use Rattle.std.proofs.Common.{Some}
 use mathlib.Core.Path.{◌≡◌, refl, sym, ap, ap₂, ◌∙◌, subst}
 use Prim.Native.Nat.{ℕ, suc, ◌+◌, ◌-◌, ◌*◌, ◌^◌, ◌≤◌, ◌<◌}
 use native.Mathlib.Omega.{arith}
 use native.Mathlib.Nat.{lt_of_lt_of_le}
-use mathlib.Core.Option.{some}
 use mathlib.Core.List.{List, [], ◌∷◌}
 use lib.Bits.{bit_and, or_lt}
 use lib.ListN.{length}
@@ -59,11 +59,11 @@ module _ (j : Job) where
   code n = digits_of (n.state ∷ n.residuals)
 
   module _ (proper : ProperJob j) where
-    pub start_sized : {m : Node} → start_node j ≡ some m → Sized m
+    pub start_sized : {m : Node} → start_node j ≡ Some m → Sized m
     start_sized {m} e =
         subst (λ (n : Node). Sized n) ((start_some j m).0 e).1 (proper.start_lt, length-residuals j.constraints _, residuals_words j.constraints _)
 
-    pub step_sized : (m : Node) {n : Node} (i : ℕ) → Sized m → next_node j m i ≡ some n → Sized n
+    pub step_sized : (m : Node) {n : Node} (i : ℕ) → Sized m → next_node j m i ≡ Some n → Sized n
     step_sized m {n} i h e =
         subst (λ (k : Node). Sized k) ((next_some j m i n).0 e).2 (
           after_lt (action_of j i) m.state h.0 (proper.add_lt i),

@@ -7,11 +7,10 @@ use mathlib.Core.Bool.{Bool, true, false, ◌||◌}
 use mathlib.Core.List.{List}
 use borrow.Author.Tests.{eqb-true, eq-eqb, ne_eqb}
 use Rattle.model.specs.logic.Formula.{choose}
-use Rattle.model.specs.declared.Verdict.{Verdict}
+use Rattle.model.specs.Verdict.{Verdict, or_else}
 use Rattle.model.specs.Bits.{number_at}
-use Rattle.model.specs.Verdict.{or_else}
-use Rattle.model.specs.job.Layout.{set_bytes, plain_sets, all_sets, action_count, pair_offset, pair_length, task_bytes, forbids, set_count}
-use Rattle.model.specs.job.Layout.{set_offset, action_at, job_of}
+use Rattle.model.specs.job.Layout.{set_bytes, plain_sets, all_sets, action_count, pair_offset, pair_length, task_bytes, forbids, set_count, set_offset}
+use Rattle.model.specs.job.Layout.{action_at, job_of}
 use Rattle.model.specs.job.Decoding.{right_length, set_verdict, action_verdict, task_verdict}
 use Rattle.model.specs.job.OldForm.{old_action, old_verdict, OldLength, OldForm}
 use Rattle.model.proofs.task.StateLaws.{nothing_forbidden}

@@ -1,9 +1,9 @@
 -- The system of a job with its estimate: the estimate is consistent, and the plans are the same runs as without.
+use Rattle.std.proofs.Common.{Option, None, Some}
 use mathlib.Core.Path.{◌≡◌, refl, sym, ap, subst}
 use Prim.Native.Nat.{ℕ, ◌+◌, ◌≤◌, ◌<◌}
 use native.Mathlib.Omega.{arith}
 use mathlib.Core.Bool.{Bool, true, false, true≢false}
-use mathlib.Core.Option.{Option, none, some}
 use mathlib.Core.List.{List}
 use lib.ListN.{length}
 use Rattle.model.specs.job.Job.{Job, action_of}
@@ -33,26 +33,26 @@ module _ (j : Job) where
 
   -- what is at most a number is there
   most_has : (o : Option ℕ) (t : ℕ) → AtMost o t → has o ≡ true
-  most_has none t h = absurd h
-  most_has (some e) t h = refl
+  most_has None t h = absurd h
+  most_has (Some e) t h = refl
 
   most_value : (o : Option ℕ) (t : ℕ) → AtMost o t → value_of o ≤ t
-  most_value none t h = absurd h
-  most_value (some e) t h = h
+  most_value None t h = absurd h
+  most_value (Some e) t h = h
 
   own : (o : Option ℕ) → has o ≡ true → AtMost o (value_of o)
-  own none h = absurd (true≢false (sym h))
-  own (some e) h = omega arith
+  own None h = absurd (true≢false (sym h))
+  own (Some e) h = omega arith
 
   -- "never to fall by more than a step's cost along that step"
-  falls : (m n : Node) (i : ℕ) → i < length j.actions → next_node j m i ≡ some n → has (left n) ≡ true
+  falls : (m n : Node) (i : ℕ) → i < length j.actions → next_node j m i ≡ Some n → has (left n) ≡ true
       → AtMost (left m) ((action_of j i).cost + value_of (left n))
   falls m n i b s h =
       let a = (next_some j m i n).0 s in
       falls_least j m.state i (value_of (left n)) b a.0 (subst (λ (k : Node). AtMost (left k) (value_of (left n))) (sym a.2) (own (left n) h))
 
   -- What leads to a node that has an estimate has one.
-  back : (m n : Node) (i : ℕ) → i < length j.actions → next_node j m i ≡ some n → has (left n) ≡ true → has (left m) ≡ true
+  back : (m n : Node) (i : ℕ) → i < length j.actions → next_node j m i ≡ Some n → has (left n) ≡ true → has (left m) ≡ true
   back m n i b s h = most_has (left m) _ (falls m n i b s h)
 
   goal_facts : (n : Node) → is_goal j n ≡ true → within j.goal n.state ≡ true
@@ -63,7 +63,7 @@ module _ (j : Job) where
       go true e = e
       go false e = absurd (true≢false (sym (rw (e, is_goal) at h)))
 
-  goals_zero : (n : Node) → is_goal j n ≡ true → left n ≡ some 0
+  goals_zero : (n : Node) → is_goal j n ≡ true → left n ≡ Some 0
   goals_zero n h = goal_zero j n.state (goal_facts n h)
 
   goals : (n : Node) → is_goal j n ≡ true → has (left n) ≡ true
@@ -81,7 +81,7 @@ module _ (j : Job) where
     unfoldable pub job_hints : HintLaws (system_of j)
     job_hints = guided_hints (plain_system j) left (plain_hints j proper)
 
-    pub meets_start : (m : Node) (p : List ℕ) → (system_of j).start ≡ some m → job_hints.meets m (start_hints j) p ≡ meets_hints j p
+    pub meets_start : (m : Node) (p : List ℕ) → (system_of j).start ≡ Some m → job_hints.meets m (start_hints j) p ≡ meets_hints j p
     unfolding job_hints guided_hints
     meets_start m p e = hints.meets_start j proper m p ((kept_some (λ (z : Node). has (left z)) (start_node j) m).0 e).0
 

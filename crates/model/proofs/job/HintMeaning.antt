@@ -1,9 +1,9 @@
 -- The hint residuals of a job say which continuations meet its hints.
+use Rattle.std.proofs.Common.{None, Some}
 use mathlib.Core.Path.{◌≡◌, refl, ap, ◌∙◌, subst}
 use mathlib.Core.Logic.{◌↔◌}
 use Prim.Native.Nat.{ℕ, ◌<◌}
 use mathlib.Core.Bool.{Bool, true, false}
-use mathlib.Core.Option.{none, some}
 use mathlib.Core.List.{List, ◌∷◌}
 use lib.ListN.{length, get_or}
 use Rattle.model.specs.Bits.{bit}
@@ -45,7 +45,7 @@ module _ (j : Job) where
 
   module _ (proper : ProperJob j) where
     -- What is carried to the next node is met by the rest of what meets the residuals before.
-    meets_carried : (m : Node) {n : Node} (h : List ℕ) (i : ℕ) (p : List ℕ) → Tables j h → next_node j m i ≡ some n
+    meets_carried : (m : Node) {n : Node} (h : List ℕ) (i : ℕ) (p : List ℕ) → Tables j h → next_node j m i ≡ Some n
         → meets n (carry_hints j h n i) p ≡ meets m h (i ∷ p)
     unfolding meets carry_hints worlds_after
     meets_carried m {n} h i p t e =
@@ -56,8 +56,8 @@ module _ (j : Job) where
     plain_hints = record { meets = meets; made = Made; meets_made = meets_made; carried = meets_carried; dead = meets_dead }
 
     -- A plan meets what the start leaves of the hints exactly if it meets the hints.
-    pub meets_start : (m : Node) (p : List ℕ) → start_node j ≡ some m → plain_hints.meets m (start_hints j) p ≡ meets_hints j p
+    pub meets_start : (m : Node) (p : List ℕ) → start_node j ≡ Some m → plain_hints.meets m (start_hints j) p ≡ meets_hints j p
     unfolding plain_hints meets start_hints meets_hints worlds
     meets_start m p e =
         subst (λ (k : Node). meets k (start_hints j) p ≡ meets_hints j p) ((start_some j m).0 e).1
-        (right_first j j.hints proper.hint_parts (record { state = j.start; made = none }) j.start p)
+        (right_first j j.hints proper.hint_parts (record { state = j.start; made = None }) j.start p)

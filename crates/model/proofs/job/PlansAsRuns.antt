@@ -1,11 +1,11 @@
 -- The allowed plans of a job are the runs of its system from the start to a goal, with their cost and length as the key.
+use Rattle.std.proofs.Common.{None, Some}
 use mathlib.Core.Path.{◌≡◌, refl, sym, ap, ◌∙◌, subst}
 use mathlib.Core.Logic.{◌↔◌}
 use Prim.Native.Nat.{ℕ, ◌+◌}
 use native.Mathlib.Omega.{arith}
 use native.Mathlib.Nat.{zero-add}
 use mathlib.Core.Bool.{Bool, true, false, true≢false}
-use mathlib.Core.Option.{none, some}
 use mathlib.Core.List.{List, [], ◌∷◌}
 use lib.ListN.{length}
 use Rattle.model.specs.logic.Truth.{World, all_hold}
@@ -26,7 +26,7 @@ use Rattle.model.proofs.job.ResidualsHold.{residuals_hold, closing_right, dead_r
 module _ (j : Job) where
   -- the closing world of a state
   abbrev closing_world : ℕ → World
-  closing_world s = record { state = s; made = none }
+  closing_world s = record { state = s; made = None }
 
   -- A node is a goal if its state has the goal facts and its residuals hold of the closing world.
   goal_split : (n : Node) → (is_goal j n ≡ true)
@@ -73,7 +73,7 @@ module _ (j : Job) where
         let c = (executable_cons j m.state i p).0 e in
         let r' : length n.residuals ≡ length j.constraints = length-progressed_all j.constraints m.residuals (world_after j m.state i) r in
         let h' : HoldsOn n p ≡ true = holds_on m i p ∙ h in
-        let s : next_node j m i ≡ some n = (next_some j m i n).1 (c.1, alive_if n p r' h', refl) in
+        let s : next_node j m i ≡ Some n = (next_some j m i n).1 (c.1, alive_if n p r' h', refl) in
         let q = makes_run p n (extend k (action_of j i).cost) r' c.2 h' in
         (q.0, q.1, on i c.0 s q.2)
 
@@ -123,7 +123,7 @@ module _ (j : Job) where
         let a = (allowed_split j p).0 h in
         let met : HoldsOn (first_node j) p ≡ true = start_holds p ∙ a.2 in
         let l : length (first_node j).residuals ≡ length j.constraints = length-residuals j.constraints (closing_world j.start) in
-        let s : start_node j ≡ some (first_node j) = (start_some j (first_node j)).1 (alive_if (first_node j) p l met, refl) in
+        let s : start_node j ≡ Some (first_node j) = (start_some j (first_node j)).1 (alive_if (first_node j) p l met, refl) in
         let r = makes_run p (first_node j) zero_key l a.0 met in
         let q = subst (Run (plain_system j) (first_node j) zero_key p r.0) (course_key r.2) r.2 in
         (first_node j, r.0, s, q, (end_goal (run_course r.2)).1 (a.1, met))

@@ -1,10 +1,10 @@
 -- The truth of a list of residuals on worlds: what formulas leave is true exactly if they are, from one world to the next.
+use Rattle.std.proofs.Common.{None}
 use mathlib.Core.Path.{◌≡◌, refl, sym, ap, ap₂, ◌∙◌}
 use mathlib.Core.Logic.{◌↔◌}
 use Prim.Native.Nat.{ℕ, zero, suc, ◌<◌}
 use native.Mathlib.Omega.{arith}
 use mathlib.Core.Bool.{Bool, true, false, ◌&&◌, and-false, true≢false}
-use mathlib.Core.Option.{none}
 use mathlib.Core.List.{List, [], ◌∷◌}
 use lib.ListN.{length, get_or}
 use Rattle.model.specs.Bits.{bit, bits_of}
@@ -76,12 +76,12 @@ dead_right (φ ∷ φs) (r ∷ rs) ws l h = go (dead r) refl (dead_right φs rs 
 module _ (j : Job) (φs : List Formula) (few : FewParts φs) where
   pub right_first : (w : World) (s : ℕ) (p : List ℕ) → residuals_hold φs (residuals φs w) (worlds_after j s p) ≡ all_hold φs (w ∷ worlds_after j s p)
   unfolding worlds_after
-  right_first w s [] = residuals_right φs few w (record { state = s; made = none }) []
+  right_first w s [] = residuals_right φs few w (record { state = s; made = None }) []
   right_first w s (i ∷ p) = residuals_right φs few w (world_after j s i) (worlds_after j (after (action_of j i) s) p)
 
   pub right_next : (rs : List ℕ) (w : World) (s : ℕ) (p : List ℕ) → residuals_hold φs (progressed_all φs rs w) (worlds_after j s p) ≡ residuals_hold φs rs (w ∷ worlds_after j s p)
   unfolding worlds_after
-  right_next rs w s [] = progressed_all_right φs few rs w (record { state = s; made = none }) []
+  right_next rs w s [] = progressed_all_right φs few rs w (record { state = s; made = None }) []
   right_next rs w s (i ∷ p) = progressed_all_right φs few rs w (world_after j s i) (worlds_after j (after (action_of j i) s) p)
 
 -- ---- residuals by settings

@@ -1,10 +1,10 @@
 -- The system of a job meets the laws of exploration.
+use Rattle.std.proofs.Common.{None, Some}
 use mathlib.Core.Path.{◌≡◌, refl, sym, ◌∙◌}
 use Prim.Native.Nat.{ℕ}
 use native.Mathlib.Omega.{arith}
 use mathlib.Core.Bool.{◌&&◌}
 use mathlib.Core.List.{List}
-use mathlib.Core.Option.{none, some}
 use lib.ListN.{get_or}
 use lib.Seq.{ext_get_or}
 use Rattle.model.specs.logic.Truth.{World}
@@ -14,7 +14,8 @@ use Rattle.model.specs.search.JobSystem.{start_hints, carry_hints, HintSetting, 
 use Rattle.model.proofs.bits.Bits.{bits_ext}
 use Rattle.model.proofs.exploration.Laws.{Laws}
 use Rattle.model.proofs.job.NodeLaws.{node_eq, node_same}
-use Rattle.model.proofs.job.ResidualLists.{words_get_or, length-residuals, residuals_words, length-progressed_all, progressed_all_words, length-meet_all, bit_meet_all, meet_all_lt}
+use Rattle.model.proofs.job.ResidualLists.{words_get_or, length-residuals, residuals_words, length-progressed_all, progressed_all_words, length-meet_all}
+use Rattle.model.proofs.job.ResidualLists.{bit_meet_all, meet_all_lt}
 
 meet_true : (g h : List ℕ) (s : HintSetting) → hint_true_at (meet_all g h) s ≡ (hint_true_at g s && hint_true_at h s)
 unfolding hint_true_at
@@ -24,13 +25,13 @@ module _ (j : Job) where
   start_tables : Tables j (start_hints j)
   unfolding start_hints
   start_tables =
-      let w : World = record { state = j.start; made = none } in
+      let w : World = record { state = j.start; made = None } in
       (length-residuals j.hints w, words_get_or (start_hints j) (residuals_words j.hints w))
 
   carry_tables : (h : List ℕ) (n : Node) (i : ℕ) → Tables j h → Tables j (carry_hints j h n i)
   unfolding carry_hints
   carry_tables h n i t =
-      let w : World = record { state = n.state; made = some i } in
+      let w : World = record { state = n.state; made = Some i } in
       (length-progressed_all j.hints h w t.0, words_get_or (carry_hints j h n i) (progressed_all_words j.hints h w))
 
   meet_tables : (g h : List ℕ) → Tables j g → Tables j h → Tables j (meet_all g h)

@@ -12,7 +12,8 @@ use Rattle.model.specs.logic.Formula.{Formula, constant, fact, action, unary, bi
 use Rattle.model.specs.logic.Parts.{temporal, count}
 use Rattle.model.specs.logic.Truth.{World, holds}
 use Rattle.model.specs.logic.NormalForm.{nnf, is_literal, positive}
-use Rattle.model.proofs.logic.TruthLaws.{not_and, not_or, next_same, next_not, some_same, all_same, some_not, all_not, until_same, release_same, until_not, release_not}
+use Rattle.model.proofs.logic.TruthLaws.{not_and, not_or, next_same, next_not, some_same, all_same, some_not, all_not, until_same, release_same, until_not}
+use Rattle.model.proofs.logic.TruthLaws.{release_not}
 
 -- a truth, or its negation
 abbrev pub signed : Bool → Bool → Bool

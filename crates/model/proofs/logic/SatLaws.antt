@@ -1,11 +1,11 @@
 -- Definition 1 of source document 003 and truth as a function agree at every position.
+use Rattle.std.proofs.Common.{None}
 use mathlib.Core.Path.{◌≡◌, refl, sym, ap, ap₂, ◌∙◌, subst}
 use mathlib.Core.Logic.{◌↔◌}
 use Prim.Native.Nat.{ℕ, zero, suc, ◌+◌, ◌-◌, ◌≤◌, ◌<◌}
 use native.Mathlib.Omega.{arith}
 use native.Mathlib.Decide.{dec_lt}
 use mathlib.Core.Bool.{Bool, true, false, not, ◌&&◌, ◌||◌, or-true, false≢true}
-use mathlib.Core.Option.{none}
 use mathlib.Core.List.{List, ◌∷◌}
 use lib.ListN.{length, get_or, drop, drop_of_length-le}
 use lib.Seq.{drop-cons}
@@ -19,7 +19,7 @@ use Rattle.model.specs.logic.Sat.{UntilAt, Sat}
 use Rattle.model.proofs.logic.TruthLaws.{Test, last_is, some_is, all_is, release_is}
 
 abbrev no_world : World
-no_world = record { state = 0; made = none }
+no_world = record { state = 0; made = None }
 
 -- ---- statements and tests
 module _ {A : Type 0} where

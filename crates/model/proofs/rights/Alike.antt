@@ -1,15 +1,13 @@
 -- Two jobs that differ in barred steps alone are one job to the caller, so nothing that is given back tells them apart.
+use Rattle.std.proofs.Common.{Ok, Err}
 use mathlib.Core.Path.{◌≡◌, refl, sym, ap, ap₂, ◌∙◌}
 use Prim.Native.Nat.{ℕ}
 use mathlib.Core.Bool.{Bool, true, false}
 use mathlib.Core.List.{List}
 use lib.Dec.{eqb}
 use lib.ListN.{length}
-use Rattle.model.specs.declared.Verdict.{Verdict}
-use Rattle.model.specs.declared.Verdict.TheVariants.{Fine, Bad}
-use Rattle.model.specs.declared.Searched.TheVariants.{Refused}
+use Rattle.model.specs.Verdict.{no_refusal, Verdict, unless}
 use Rattle.model.specs.Bits.{bit}
-use Rattle.model.specs.Verdict.{unless}
 use Rattle.model.specs.logic.Formula.{choose}
 use Rattle.model.specs.job.Job.{Job, Action, action_of, list_of}
 use Rattle.model.specs.job.Layout.{job_of}
@@ -44,13 +42,13 @@ same_restricted u j k a = λ t. record {
 -- ---- calls
 
 -- Of an accepted job only the number of steps decides whether a list is refused.
-list_verdict : (c : Call) → job_verdict c.bytes ≡ Fine
+list_verdict : (c : Call) → job_verdict c.bytes ≡ no_refusal
     → call_verdict c ≡ unless (eqb (length c.needs) (length (job_of c.bytes).actions)) 14 (length c.needs)
 unfolding call_verdict needs_verdict
 list_verdict c fine =
     rw fine (ap (λ (n : ℕ). unless (eqb (length c.needs) n) 14 (length c.needs)) (sym (length-actions c.bytes)))
 
-module _ (a b needs : List ℕ) (rights : ℕ) (fine_a : job_verdict a ≡ Fine) (fine_b : job_verdict b ≡ Fine)
+module _ (a b needs : List ℕ) (rights : ℕ) (fine_a : job_verdict a ≡ no_refusal) (fine_b : job_verdict b ≡ no_refusal)
     (alike : Alike (usable_bits needs rights) (job_of a) (job_of b)) where
   pub same_verdict : call_verdict (call a needs rights) ≡ call_verdict (call b needs rights)
   same_verdict =
@@ -68,6 +66,6 @@ module _ (a b needs : List ℕ) (rights : ℕ) (fine_a : job_verdict a ≡ Fine)
     where
       ended : Verdict → Job → SearchEnd
       ended v j = elim v [
-        | Bad r ↦ record { result = Refused r; table = table; plan = buffer }
-        | Fine ↦ elim (full j (slots_in table)) [ true ↦ too_small_end table buffer | false ↦ answered (solve_job j) table buffer ]
+        | Err r ↦ record { result = Err r; table = table; plan = buffer }
+        | Ok _ ↦ elim (full j (slots_in table)) [ true ↦ too_small_end table buffer | false ↦ answered (solve_job j) table buffer ]
       ]

@@ -1,4 +1,5 @@
 -- Without hints, further rights never make a caller's plan dearer.
+use Rattle.model.specs.Verdict.{no_refusal}
 use mathlib.Core.Path.{◌≡◌, refl, sym, ap, ◌∙◌}
 use mathlib.Core.Logic.{inl, inr}
 use Prim.Native.Nat.{ℕ, ◌≤◌, ◌<◌}
@@ -6,7 +7,6 @@ use native.Mathlib.Omega.{arith}
 use native.Mathlib.Decide.{dec_lt}
 use mathlib.Core.Bool.{true}
 use mathlib.Core.List.{List, []}
-use Rattle.model.specs.declared.Verdict.TheVariants.{Fine}
 use Rattle.model.specs.Bits.{bit}
 use Rattle.model.specs.job.Job.{Job}
 use Rattle.model.specs.job.Layout.{job_of}
@@ -69,7 +69,7 @@ module _ (u w : ℕ) (more : (i : ℕ) → bit u i ≡ true → bit w i ≡ true
       go (plan d q) f = (d, q, f, least d q f (dec_lt c d))
 
 -- "Without hints, .. further rights never make a caller's plan dearer."
-pub further_rights : (bytes needs : List ℕ) (r s : ℕ) → job_verdict bytes ≡ Fine → (job_of bytes).hints ≡ [] → within r s ≡ true
+pub further_rights : (bytes needs : List ℕ) (r s : ℕ) → job_verdict bytes ≡ no_refusal → (job_of bytes).hints ≡ [] → within r s ≡ true
     → {c : ℕ} {p : List ℕ} → solve_job (caller_job (call bytes needs r)) ≡ plan c p
     → (d : ℕ) × (q : List ℕ) × (solve_job (caller_job (call bytes needs s)) ≡ plan d q) × (d ≤ c)
 further_rights bytes needs r s fine unhinted h e =

@@ -1,9 +1,9 @@
 -- The plans of a restricted job are those of the job whose steps may all be used.
+use Rattle.std.proofs.Common.{None}
 use mathlib.Core.Path.{◌≡◌, refl, sym, ap, ap₂, ◌∙◌, subst}
 use mathlib.Core.Logic.{◌↔◌}
 use Prim.Native.Nat.{ℕ, ◌+◌, ◌<◌}
 use mathlib.Core.Bool.{true}
-use mathlib.Core.Option.{none}
 use mathlib.Core.List.{List, [], ◌∷◌}
 use lib.ListN.{length}
 use Rattle.model.specs.Bits.{bit}
@@ -44,7 +44,7 @@ module _ (u : ℕ) (j : Job) where
 
   pub worlds_same : (p : List ℕ) → Usable u p → worlds (restricted u j) p ≡ worlds j p
   unfolding worlds restricted
-  worlds_same p v = ap (λ (ws : List World). record { state = j.start; made = none } ∷ ws) (worlds_after_lem p j.start v)
+  worlds_same p v = ap (λ (ws : List World). record { state = j.start; made = None } ∷ ws) (worlds_after_lem p j.start v)
 
   -- ---- which lists can be made
 

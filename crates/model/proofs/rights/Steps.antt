@@ -1,10 +1,10 @@
 -- The steps of a restricted job: those that may be used are the job's own, and the others are never applicable.
+use Rattle.std.proofs.Common.{None, Some}
 use mathlib.Core.Path.{◌≡◌, refl, sym, ap, ◌∙◌}
 use Prim.Native.Nat.{ℕ, ◌^◌, ◌≤◌, ◌<◌}
 use native.Mathlib.Omega.{arith}
 use native.Mathlib.Decide.{dec_lt}
 use mathlib.Core.Bool.{Bool, true, false, ◌&&◌, true≢false}
-use mathlib.Core.Option.{none, some}
 use mathlib.Core.List.{List}
 use lib.Bits.{bit_and}
 use lib.Dec.{eqb}
@@ -77,7 +77,7 @@ module _ (u : ℕ) (j : Job) where
   -- ---- nodes
 
   -- "no other step leads to a pair"
-  pub barred_nowhere : (n : Node) (i : ℕ) → i < length j.actions → bit u i ≡ false → next_node (restricted u j) n i ≡ none
+  pub barred_nowhere : (n : Node) (i : ℕ) → i < length j.actions → bit u i ≡ false → next_node (restricted u j) n i ≡ None
   unfolding next_node
   barred_nowhere n i l h = rw (barred_not i l n.state h, next_node) refl
 
@@ -85,8 +85,8 @@ module _ (u : ℕ) (j : Job) where
   pub next_usable : (n : Node) (i : ℕ) → bit u i ≡ true → next_node (restricted u j) n i ≡ next_node j n i
   unfolding next_node restricted
   next_usable n i h = ap (λ (a : Action). elim (applicable a n.state) [
-    | false ↦ none
-    | true ↦ (let s = after a n.state in alive s (progressed_all j.constraints n.residuals (record { state = s; made = some i })))
+    | false ↦ None
+    | true ↦ (let s = after a n.state in alive s (progressed_all j.constraints n.residuals (record { state = s; made = Some i })))
   ]) (action_usable i h)
 
   -- The start, the goal and the hints do not depend on which steps may be used.

@@ -1,7 +1,6 @@
 -- What a search and a read-through are called with: a job, the rights that its steps need, and those of the caller (card 4).
 use Rattle.std.specs.Prelude.{ℕ, List, length, eqb}
-use Rattle.model.specs.declared.Verdict.{Verdict}
-use Rattle.model.specs.Verdict.{unless, or_else}
+use Rattle.model.specs.Verdict.{Verdict, unless, or_else}
 use Rattle.model.specs.job.Job.{Job}
 use Rattle.model.specs.job.Layout.{action_count}
 use Rattle.model.specs.job.Decoding.{job_verdict}

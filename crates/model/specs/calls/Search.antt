@@ -1,9 +1,8 @@
 -- A search on job bytes, with a lent table and a lent plan buffer.
-use Rattle.std.specs.Prelude.{◌≡◌, ℕ, ◌/◌, ◌<◌, Bool, true, false, ◌⊎◌, List, ◌++◌, length, take, drop, replicate, leb}
-use Rattle.model.specs.declared.Verdict.TheVariants.{Fine, Bad}
-use Rattle.model.specs.declared.Searched.{Searched}
-use Rattle.model.specs.declared.Searched.TheVariants.{Planned, Refused}
-use Rattle.model.specs.Verdict.{refusal}
+use Rattle.std.specs.Prelude.{Ok, Err, ◌≡◌, ℕ, ◌/◌, ◌<◌, Bool, true, false, ◌⊎◌, List, ◌++◌, length, take, drop, replicate, leb}
+use Rattle.model.specs.Verdict.{no_refusal}
+use Rattle.model.specs.Results.{planned, Searched}
+use Rattle.model.specs.Refusal.{refusal}
 use Rattle.model.specs.logic.Formula.{choose}
 use Rattle.model.specs.job.Job.{Job}
 use Rattle.model.specs.job.Layout.{job_of}
@@ -41,27 +40,27 @@ written_over p buffer = p ++ drop (length p) buffer
 -- the end of a search that found an answer; 13: "buffer shorter than the plan", with the "length needed"
 unfoldable pub answered : Answer → List ℕ → List ℕ → SearchEnd
 unfolding cleared written_over
-answered (no_plan n) table buffer = record { result = Refused (refusal n 0); table = cleared table; plan = buffer }
+answered (no_plan n) table buffer = record { result = Err (refusal n 0); table = cleared table; plan = buffer }
 answered (plan c p) table buffer = elim (leb (length p) (length buffer)) [
-  | true ↦ record { result = Planned c (length p); table = cleared table; plan = written_over p buffer }
-  | false ↦ record { result = Refused (refusal 13 (length p)); table = cleared table; plan = buffer }
+  | true ↦ record { result = Ok (planned c (length p)); table = cleared table; plan = written_over p buffer }
+  | false ↦ record { result = Err (refusal 13 (length p)); table = cleared table; plan = buffer }
 ]
 
 -- what the rules give "with 10 left aside"; "numbers 1 to 9 leave everything lent alone", and "14 to 18 leave everything lent alone"
 unfoldable pub ruled : Call → List ℕ → List ℕ → SearchEnd
 unfolding answered call_verdict usable_bits restricted job_of solve_job
 ruled c table buffer = elim (call_verdict c) [
-  | Bad r ↦ record { result = Refused r; table = table; plan = buffer }
-  | Fine ↦ answered (solve_job (caller_job c)) table buffer
+  | Err r ↦ record { result = Err r; table = table; plan = buffer }
+  | Ok _ ↦ answered (solve_job (caller_job c)) table buffer
 ]
 
 unfoldable pub too_small_end : List ℕ → List ℕ → SearchEnd
 unfolding cleared
-too_small_end table buffer = record { result = Refused (refusal 10 0); table = cleared table; plan = buffer }
+too_small_end table buffer = record { result = Err (refusal 10 0); table = cleared table; plan = buffer }
 
 -- "the pairs reached outnumber the places"
 abbrev pub Outnumbered : Call → List ℕ → Type 0
-Outnumbered c table = (call_verdict c ≡ Fine) × (slots_in table < reached_count (caller_job c))
+Outnumbered c table = (call_verdict c ≡ no_refusal) × (slots_in table < reached_count (caller_job c))
 
 -- What a search gives. "One result is open: when the pairs reached outnumber the places, a search gives either 10 or what the rules above
 -- give with 10 left aside, and nothing else."
@@ -74,8 +73,8 @@ SearchGives c table buffer e = (e ≡ ruled c table buffer) ⊎ (Outnumbered c t
 unfoldable pub decided : (Job → ℕ → Bool) → Call → List ℕ → List ℕ → SearchEnd
 unfolding answered call_verdict usable_bits restricted job_of solve_job slots_in too_small_end
 decided full c table buffer = elim (call_verdict c) [
-  | Bad r ↦ record { result = Refused r; table = table; plan = buffer }
-  | Fine ↦ elim (full (caller_job c) (slots_in table)) [ true ↦ too_small_end table buffer | false ↦ answered (solve_job (caller_job c)) table buffer ]
+  | Err r ↦ record { result = Err r; table = table; plan = buffer }
+  | Ok _ ↦ elim (full (caller_job c) (slots_in table)) [ true ↦ too_small_end table buffer | false ↦ answered (solve_job (caller_job c)) table buffer ]
 ]
 
 -- What is promised of a search. It gives what the rules say, and which of the two it gives is decided by the job as it is to the caller and by the number
@@ -88,8 +87,8 @@ pub record SearchEnds (full : Job → ℕ → Bool) (c : Call) (table buffer : L
 
 -- how many steps of a plan were written
 unfoldable pub steps_in : Searched → ℕ
-steps_in (Planned c n) = n
-steps_in (Refused r) = 0
+steps_in (Ok p) = p.steps
+steps_in (Err r) = 0
 
 -- "the plan as a part of the lent plan buffer, one byte a step, from its start", empty on a refusal
 unfoldable pub part_of : SearchEnd → List ℕ

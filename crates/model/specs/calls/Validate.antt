@@ -1,11 +1,8 @@
 -- The read-through on job bytes and step bytes. Nothing lent to it is written.
-use Rattle.std.specs.Prelude.{ℕ, List, length, take, get_or, ltb, leb}
-use Rattle.model.specs.declared.Verdict.{Verdict}
-use Rattle.model.specs.declared.Verdict.TheVariants.{Fine, Bad}
-use Rattle.model.specs.declared.Validated.{Validated}
-use Rattle.model.specs.declared.Validated.TheVariants.{Passed, Refused}
+use Rattle.std.specs.Prelude.{Ok, Err, ℕ, List, length, take, get_or, ltb, leb}
+use Rattle.model.specs.Results.{passed, Validated}
+use Rattle.model.specs.Verdict.{Verdict, unless, or_else, in_turn}
 use Rattle.model.specs.Bits.{bit, bits_of}
-use Rattle.model.specs.Verdict.{unless, or_else, in_turn}
 use Rattle.model.specs.logic.Formula.{Formula, constant}
 use Rattle.model.specs.declared.Constant.TheVariants.{True}
 use Rattle.model.specs.logic.Truth.{holds}
@@ -56,6 +53,6 @@ module _ (j : Job) (steps : List ℕ) where
 unfoldable pub validated : Call → List ℕ → Validated
 unfolding or_else call_verdict steps_verdict hint_bits cost_of job_of usable_bits
 validated c steps = elim (or_else (call_verdict c) (steps_verdict (job_of c.bytes) steps (usable_in c))) [
-  | Bad r ↦ Refused r
-  | Fine ↦ Passed (cost_of (job_of c.bytes) steps) (hint_bits (job_of c.bytes) steps)
+  | Err r ↦ Err r
+  | Ok _ ↦ Ok (passed (cost_of (job_of c.bytes) steps) (hint_bits (job_of c.bytes) steps))
 ]

@@ -1,10 +1,8 @@
 -- A rule written back into a lent buffer.
-use Rattle.std.specs.Prelude.{ℕ, true, false, ◌&&◌, List, [], length, leb}
-use Rattle.model.specs.declared.Verdict.{Verdict}
-use Rattle.model.specs.declared.Verdict.TheVariants.{Fine, Bad}
-use Rattle.model.specs.declared.Rewritten.{Rewritten}
-use Rattle.model.specs.declared.Rewritten.TheVariants.{Written, Refused}
-use Rattle.model.specs.Verdict.{refusal, unless, or_else}
+use Rattle.std.specs.Prelude.{Ok, Err, ℕ, true, false, ◌&&◌, List, [], length, leb}
+use Rattle.model.specs.Verdict.{Verdict, unless, or_else}
+use Rattle.model.specs.Results.{Rewritten}
+use Rattle.model.specs.Refusal.{refusal}
 use Rattle.model.specs.logic.Formula.{encode}
 use Rattle.model.specs.logic.Reading.{Parsed, formula, wrong, section}
 use Rattle.model.specs.logic.Parts.{most_bytes}
@@ -38,13 +36,13 @@ rewritten (wrong p) = []
 unfoldable pub into : List ℕ → List ℕ → WriteEnd
 unfolding written_over
 into out buffer = elim (leb (length out) (length buffer)) [
-  | true ↦ record { result = Written (length out); buffer = written_over out buffer }
-  | false ↦ record { result = Refused (refusal 13 (length out)); buffer = buffer }
+  | true ↦ record { result = Ok (length out); buffer = written_over out buffer }
+  | false ↦ record { result = Err (refusal 13 (length out)); buffer = buffer }
 ]
 
 unfoldable pub written_back : ℕ → ℕ → List ℕ → List ℕ → WriteEnd
 unfolding rule_verdict section rewritten into
 written_back v a rule buffer = elim (rule_verdict v a rule) [
-  | Bad r ↦ record { result = Refused r; buffer = buffer }
-  | Fine ↦ into (rewritten (section v a rule)) buffer
+  | Err r ↦ record { result = Err r; buffer = buffer }
+  | Ok _ ↦ into (rewritten (section v a rule)) buffer
 ]

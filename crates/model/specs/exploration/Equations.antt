@@ -1,6 +1,5 @@
 -- The section "Pairs and hints" of document 01 as equations that a set of entries satisfies, one field a sentence.
-use Rattle.std.specs.Prelude.{◌≡◌, ℕ, ◌<◌, true, false, ◌⊎◌, ◌↔◌, List, [], ◌∷◌, ◌++◌}
-use Rattle.std.proofs.Math.Option.{some}
+use Rattle.std.specs.Prelude.{◌≡◌, ℕ, ◌<◌, true, false, ◌⊎◌, ◌↔◌, List, [], ◌∷◌, ◌++◌, Some}
 use Rattle.model.specs.exploration.Key.{Key, zero_key, extend, Le, First}
 use Rattle.model.specs.exploration.System.{System, rank_of}
 
@@ -24,7 +23,7 @@ module _ (S : System) where
   Entries = S.Node → Key → S.Hints → Type 0
 
   abbrev pub Starts : S.Node → Type 0
-  Starts n = S.start ≡ some n
+  Starts n = S.start ≡ Some n
 
   -- One step leads to node n with key k and hint residuals h, from a reached node that is not cut.
   pub record Arrives (L : Entries) (n : S.Node) (k : Key) (h : S.Hints) : Type 0 where
@@ -36,7 +35,7 @@ module _ (S : System) where
     pub in_range : action < S.actions
     -- "Steps out of a cut pair lead nowhere".
     pub uncut : S.cut hints ≡ false
-    pub leads : S.step source action ≡ some n
+    pub leads : S.step source action ≡ Some n
     pub key_is : k ≡ extend key (S.cost action)
     pub hints_are : h ≡ S.carry hints n action
 
@@ -65,7 +64,7 @@ module _ (S : System) where
   -- a path "through least keys of uncut pairs", to a node with a key
   pub data Path (L : Entries) : List ℕ → S.Node → Key → Type 0 where
     begin : {n : S.Node} → Starts n → Uncut L n zero_key → Path L [] n zero_key
-    onward : {p : List ℕ} {m n : S.Node} {k : Key} (i : ℕ) → Path L p m k → i < S.actions → S.step m i ≡ some n
+    onward : {p : List ℕ} {m n : S.Node} {k : Key} (i : ℕ) → Path L p m k → i < S.actions → S.step m i ≡ Some n
         → Uncut L n (extend k (S.cost i)) → Path L (p ++ (i ∷ [])) n (extend k (S.cost i))
 
   pub record Plan (L : Entries) (c : ℕ) (p : List ℕ) : Type 0 where

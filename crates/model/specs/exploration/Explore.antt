@@ -1,8 +1,7 @@
 -- The section "Pairs and hints" of document 01 as a function: the entries by rising key, each computed from the ones before.
-use Rattle.std.specs.Prelude.{◌≡◌, Bool, ◌&&◌, ◌||◌}
+use Rattle.std.specs.Prelude.{◌≡◌, Bool, ◌&&◌, ◌||◌, Option, None, Some}
 use Prim.Native.Nat.{ℕ, zero, suc}
 use Rattle.std.proofs.Math.Bool.{true, false, not}
-use Rattle.std.proofs.Math.Option.{Option, none, some}
 use mathlib.Core.List.{List, [], ◌∷◌, ◌++◌, Memᴰ}
 use Rattle.model.specs.exploration.Key.{Key, zero_key, extend, less, same_key, earlier, first_of}
 use Rattle.model.specs.exploration.System.{System}
@@ -29,8 +28,8 @@ module _ (S : System) where
   unfoldable pub arrival : Entry S → ℕ → List (Entry S)
   unfolding extend
   arrival e i = elim (S.step e.node i) [
-    | none ↦ []
-    | some m ↦ record { node = m; key = extend e.key (S.cost i); hints = S.carry e.hints m i; path = e.path ++ (i ∷ []) } ∷ []
+    | None ↦ []
+    | Some m ↦ record { node = m; key = extend e.key (S.cost i); hints = S.carry e.hints m i; path = e.path ++ (i ∷ []) } ∷ []
   ]
 
   -- what the k actions from i on lead to
@@ -103,8 +102,8 @@ module _ (S : System) where
   unfoldable pub reached : List (Entry S)
   unfolding explore start_entry
   reached = elim S.start [
-    | none ↦ []
-    | some m ↦ elim (explore S.bound (start_entry m ∷ [])) [ all_of es ↦ es | no_more ↦ [] ]
+    | None ↦ []
+    | Some m ↦ elim (explore S.bound (start_entry m ∷ [])) [ all_of es ↦ es | no_more ↦ [] ]
   ]
 
   -- ---- the answer
@@ -112,20 +111,20 @@ module _ (S : System) where
   -- of two goal entries the one of the lesser key, or with the first path
   unfoldable pub better : Entry S → Option (Entry S) → Option (Entry S)
   unfolding less earlier
-  better x none = some x
-  better x (some y) =
+  better x None = Some x
+  better x (Some y) =
       elim (less x.key y.key) [
-        | true ↦ some x
+        | true ↦ Some x
         | false ↦ elim (less y.key x.key) [
-          | true ↦ some y
-          | false ↦ elim (earlier x.path y.path) [ true ↦ some x | false ↦ some y ]
+          | true ↦ Some y
+          | false ↦ elim (earlier x.path y.path) [ true ↦ Some x | false ↦ Some y ]
         ]
       ]
 
   -- the best of the uncut goal entries
   unfoldable pub best_goal : List (Entry S) → Option (Entry S)
   unfolding better
-  best_goal [] = none
+  best_goal [] = None
   best_goal (e ∷ es) = elim (S.goal e.node && not (is_cut e)) [ true ↦ better e (best_goal es) | false ↦ best_goal es ]
 
   unfoldable pub has_cut : List (Entry S) → Bool
@@ -135,8 +134,8 @@ module _ (S : System) where
   unfoldable pub answer : List (Entry S) → Answer
   unfolding best_goal has_cut
   answer es = elim (best_goal es) [
-    | some e ↦ plan e.key.cost e.path
-    | none ↦ elim (has_cut es) [ true ↦ no_plan 11 | false ↦ no_plan 12 ]
+    | Some e ↦ plan e.key.cost e.path
+    | None ↦ elim (has_cut es) [ true ↦ no_plan 11 | false ↦ no_plan 12 ]
   ]
 
   -- the answer of a search to which no table is too small

@@ -1,6 +1,5 @@
 -- A transition system with an estimate of what is left, which some nodes do not have: those count as not reached (card 2).
-use Rattle.std.specs.Prelude.{◌≡◌, ℕ, Bool, true, false, List}
-use Rattle.std.proofs.Math.Option.{Option, none, some}
+use Rattle.std.specs.Prelude.{◌≡◌, ℕ, Bool, true, false, List, Option, None, Some}
 use Rattle.model.specs.exploration.Key.{Key}
 use Rattle.model.specs.exploration.System.{System}
 use Rattle.model.specs.exploration.Equations.{Answer, plan, no_plan}
@@ -8,18 +7,18 @@ use Rattle.model.specs.exploration.Explore.{Of, reached, solve}
 
 -- a node, if it passes a test
 unfoldable pub kept : {N : Type 0} → (N → Bool) → Option N → Option N
-kept test none = none
-kept test (some n) = elim (test n) [ true ↦ some n | false ↦ none ]
+kept test None = None
+kept test (Some n) = elim (test n) [ true ↦ Some n | false ↦ None ]
 
 -- whether there is an estimate
 abbrev pub has : Option ℕ → Bool
-has none = false
-has (some e) = true
+has None = false
+has (Some e) = true
 
 -- the estimate, where there is one
 abbrev pub value_of : Option ℕ → ℕ
-value_of none = 0
-value_of (some e) = e
+value_of None = 0
+value_of (Some e) = e
 
 module _ (S : System) (est : S.Node → Option ℕ) where
   -- "A pair without an estimate counts as not reached"; nothing else changes but the order in which nodes are taken.

@@ -1,6 +1,5 @@
 -- The transition system that a search explores: nodes, actions, an estimate and hint residuals, with nothing said of formulas, bits or bytes.
-use Rattle.std.specs.Prelude.{ℕ, Bool}
-use Rattle.std.proofs.Math.Option.{Option}
+use Rattle.std.specs.Prelude.{ℕ, Bool, Option}
 use Rattle.model.specs.exploration.Key.{Key, rank}
 
 -- Actions are the numbers below `actions`.

@@ -1,15 +1,14 @@
 -- The refusals 1 to 5, in the order of document 01's table.
+use Rattle.std.specs.Prelude.{Err, Bool, ◌&&◌, ◌||◌, List, [], ◌∷◌, length, drop, ltb}
 use Prim.Native.Nat.{ℕ, zero, suc, ◌+◌, ◌-◌, ◌*◌, ◌^◌}
-use Rattle.std.specs.Prelude.{Bool, ◌&&◌, ◌||◌, List, [], ◌∷◌, length, drop, ltb}
 use Rattle.std.proofs.Math.Dec.{eqb, leb}
-use Rattle.model.specs.declared.Verdict.{Verdict}
-use Rattle.model.specs.declared.Verdict.TheVariants.{Fine, Bad}
+use Rattle.model.specs.Verdict.{no_refusal, Verdict, unless, or_else, in_turn}
 use Rattle.model.specs.Bits.{number_at}
-use Rattle.model.specs.Verdict.{refusal, unless, or_else, in_turn}
+use Rattle.model.specs.Refusal.{refusal}
 use Rattle.model.specs.logic.Reading.{Parsed, formula, wrong}
 use Rattle.model.specs.logic.Parts.{most_bytes, most_parts, Part, parts_of}
-use Rattle.model.specs.job.Layout.{set_bytes, plain_sets, all_sets, fact_count, action_count, constraint_count, hint_count, pair_count}
-use Rattle.model.specs.job.Layout.{pair_offset, pair_length, task_bytes, set_count, set_offset, formula_in}
+use Rattle.model.specs.job.Layout.{set_bytes, plain_sets, all_sets, fact_count, action_count, constraint_count, hint_count, pair_count, pair_offset}
+use Rattle.model.specs.job.Layout.{pair_length, task_bytes, set_count, set_offset, formula_in}
 
 -- "V and A outside their ranges"
 unfoldable pub counts_in_range : ℕ → ℕ → Bool
@@ -17,13 +16,13 @@ counts_in_range v a = leb 1 v && leb v 64 && leb a 64
 
 -- "more than 6 carried parts": refused at "the seventh", counted from an offset
 unfoldable pub parts_verdict : ℕ → List Part → Verdict
-parts_verdict o ps = elim (drop most_parts ps) [ [] ↦ Fine | p ∷ qs ↦ Bad (refusal 5 (o + p.position)) ]
+parts_verdict o ps = elim (drop most_parts ps) [ [] ↦ no_refusal | p ∷ qs ↦ Err (refusal 5 (o + p.position)) ]
 
 -- a section's formula: "unknown code, number too large, early end, bytes left", then "same section, after 4" the carried parts
 unfoldable pub formula_verdict : ℕ → Parsed → Verdict
 unfolding parts_verdict parts_of
 formula_verdict o (formula φ n) = parts_verdict o (parts_of φ)
-formula_verdict o (wrong p) = Bad (refusal 4 (o + p))
+formula_verdict o (wrong p) = Err (refusal 4 (o + p))
 
 module _ (bytes : List ℕ) where
   -- head: "under 4 bytes, or a count out of range"

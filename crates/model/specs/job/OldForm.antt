@@ -1,8 +1,7 @@
 -- A task in document 01's form, before actions had forbidden facts: card 1, "the old length still reads, with nothing forbidden".
 use Rattle.std.specs.Prelude.{◌≡◌, ℕ, ◌+◌, ◌*◌, true, List}
-use Rattle.model.specs.declared.Verdict.{Verdict}
+use Rattle.model.specs.Verdict.{Verdict, or_else, in_turn}
 use Rattle.model.specs.Bits.{number_at}
-use Rattle.model.specs.Verdict.{or_else, in_turn}
 use Rattle.model.specs.job.Job.{Action, list_of}
 use Rattle.model.specs.job.Layout.{action_count, pair_offset, pair_length, job_of}
 use Rattle.model.specs.job.Decoding.{right_length, set_verdict, task_verdict}

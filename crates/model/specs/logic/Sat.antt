@@ -1,7 +1,6 @@
 -- Truth as source document 003 defines it (definition 1), with positions and quantifiers. That document prints w0 for a symbol at moment i;
 -- wi is meant. The list of worlds is w0 to wn, so n + 1 is its length.
-use Rattle.std.specs.Prelude.{◌≡◌, ℕ, suc, ◌≤◌, ◌<◌, true, List, length, get_or}
-use Rattle.std.proofs.Math.Option.{none}
+use Rattle.std.specs.Prelude.{◌≡◌, ℕ, suc, ◌≤◌, ◌<◌, true, List, length, get_or, None}
 use Rattle.model.specs.declared.Constant.TheVariants.{False, True, Last}
 use Rattle.model.specs.declared.Unary.TheVariants.{Not, Next, Eventually, Always}
 use Rattle.model.specs.declared.Binary.TheVariants.{And, Or, Until, Release}
@@ -10,7 +9,7 @@ use Rattle.model.specs.logic.Formula.{Formula, constant, fact, action, unary, bi
 use Rattle.model.specs.logic.Truth.{World, is_made}
 
 abbrev no_world : World
-no_world = record { state = 0; made = none }
+no_world = record { state = 0; made = None }
 
 module _ (w : List World) where
   -- "there exists a j with i ≤ j ≤ n such that w, j satisfies ψ2, and for all i ≤ k < j, w, k satisfies ψ1"

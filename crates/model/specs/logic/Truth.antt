@@ -1,6 +1,5 @@
 -- Truth on a finite list of worlds, as a function: the formula is judged in the first world of the list, the last one is the closing world.
-use Rattle.std.specs.Prelude.{ℕ, Bool, true, false, not, ◌&&◌, ◌||◌, List, [], ◌∷◌, eqb}
-use Rattle.std.proofs.Math.Option.{Option, none, some}
+use Rattle.std.specs.Prelude.{ℕ, Bool, true, false, not, ◌&&◌, ◌||◌, List, [], ◌∷◌, eqb, Option, None, Some}
 use Rattle.model.specs.declared.Constant.TheVariants.{False, True, Last}
 use Rattle.model.specs.declared.Unary.TheVariants.{Not, Next, Eventually, Always}
 use Rattle.model.specs.declared.Binary.TheVariants.{And, Or, Until, Release}
@@ -13,8 +12,8 @@ pub record World : Type 0 where
   pub made : Option ℕ
 
 unfoldable pub is_made : Option ℕ → ℕ → Bool
-is_made none a = false
-is_made (some b) a = eqb b a
+is_made None a = false
+is_made (Some b) a = eqb b a
 
 -- a symbol's truth in the first world
 unfoldable pub in_first : (World → Bool) → List World → Bool

@@ -1,11 +1,10 @@
 -- The max estimate of what is left to pay (card 2, after Bonet and Geffner 2001) as a function: the facts that can be built from a state, at a rising
 -- level of cost, until all goal facts are among them. MaxEstimate has the card's sentences as equations, and what is shown of the function.
+use Rattle.std.specs.Prelude.{Option, None, Some, ltb, length, get_or}
 use Prim.Native.Nat.{ℕ, zero, suc, ◌+◌}
 use Rattle.std.proofs.Math.Bool.{true, false}
-use Rattle.std.proofs.Math.Option.{Option, none, some}
 use mathlib.Core.List.{List, []}
 use Rattle.std.specs.Int.Bits.{bit_or}
-use Rattle.std.specs.Prelude.{ltb, length, get_or}
 use Rattle.model.specs.job.Job.{Job, action_of, list_of}
 use Rattle.model.specs.task.State.{within}
 
@@ -20,47 +19,47 @@ pub record Gain : Type 0 where
 
 -- of two gains the one of the lower level, the first of equals
 unfoldable pub sooner : Option Gain → Option Gain → Option Gain
-sooner none y = y
-sooner (some x) none = some x
-sooner (some x) (some y) = elim (ltb y.level x.level) [ true ↦ some y | false ↦ some x ]
+sooner None y = y
+sooner (Some x) None = Some x
+sooner (Some x) (Some y) = elim (ltb y.level x.level) [ true ↦ Some y | false ↦ Some x ]
 
 module _ (j : Job) where
   -- The end of action i: as it was, or its cost after the level where its needed facts are built and were not before.
   unfoldable pub end_of : ℕ → ℕ → Option ℕ → ℕ → Option ℕ
   unfolding within action_of
   end_of built level end i = elim end [
-    | some e ↦ some e
-    | none ↦ elim (within (action_of j i).pre built) [ true ↦ some (level + (action_of j i).cost) | false ↦ none ]
+    | Some e ↦ Some e
+    | None ↦ elim (within (action_of j i).pre built) [ true ↦ Some (level + (action_of j i).cost) | false ↦ None ]
   ]
 
   -- the ends of all actions at a level
   unfoldable pub readied : ℕ → ℕ → Ends → Ends
   unfolding end_of list_of
-  readied built level ends = list_of (λ i. end_of built level (get_or ends i none) i) (length j.actions)
+  readied built level ends = list_of (λ i. end_of built level (get_or ends i None) i) (length j.actions)
 
   -- what action i gains at its end, if it has one and adds a fact that is not built
   unfoldable pub gain_of : ℕ → Option ℕ → ℕ → Option Gain
   unfolding within action_of
   gain_of built end i = elim end [
-    | none ↦ none
-    | some e ↦ elim (within (action_of j i).add built) [ true ↦ none | false ↦ some (record { level = e; adds = (action_of j i).add }) ]
+    | None ↦ None
+    | Some e ↦ elim (within (action_of j i).add built) [ true ↦ None | false ↦ Some (record { level = e; adds = (action_of j i).add }) ]
   ]
 
   -- the soonest gain of the actions below n
   unfoldable pub soonest : ℕ → Ends → ℕ → Option Gain
   unfolding sooner gain_of
-  soonest built ends zero = none
-  soonest built ends (suc n) = sooner (soonest built ends n) (gain_of built (get_or ends n none) n)
+  soonest built ends zero = None
+  soonest built ends (suc n) = sooner (soonest built ends n) (gain_of built (get_or ends n None) n)
 
   -- the level at which all facts of a set are built, in so many turns; a turn goes on to the soonest gain
   unfoldable pub level_from : ℕ → ℕ → ℕ → ℕ → Ends → Option ℕ
   unfolding within readied soonest
-  level_from zero goal built level ends = none
+  level_from zero goal built level ends = None
   level_from (suc n) goal built level ends = elim (within goal built) [
-    | true ↦ some level
+    | true ↦ Some level
     | false ↦ elim (soonest built (readied built level ends) (length j.actions)) [
-      | none ↦ none
-      | some g ↦ level_from n goal (bit_or built g.adds) g.level (readied built level ends)
+      | None ↦ None
+      | Some g ↦ level_from n goal (bit_or built g.adds) g.level (readied built level ends)
     ]
   ]
 

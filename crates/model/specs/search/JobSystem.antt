@@ -1,6 +1,5 @@
 -- The transition system of a job, and its answer.
-use Rattle.std.specs.Prelude.{◌≡◌, ℕ, ◌*◌, ◌^◌, ◌<◌, Bool, true, false, List, length, get_or}
-use Rattle.std.proofs.Math.Option.{Option, none, some}
+use Rattle.std.specs.Prelude.{◌≡◌, ℕ, ◌*◌, ◌^◌, ◌<◌, Bool, true, false, List, length, get_or, Option, None, Some}
 use Rattle.model.specs.Bits.{bit}
 use Rattle.model.specs.job.Job.{Job, action_of}
 use Rattle.model.specs.task.State.{within, applicable, after}
@@ -14,37 +13,37 @@ use Rattle.model.specs.search.Node.{Node, node_words, residuals, progressed_all,
 -- a node, unless a constraint is dead: "but a pair with a dead rule remainder is not reached"
 unfoldable pub alive : ℕ → List ℕ → Option Node
 unfolding some_dead
-alive s rs = elim (some_dead rs) [ true ↦ none | false ↦ some (record { state = s; residuals = rs }) ]
+alive s rs = elim (some_dead rs) [ true ↦ None | false ↦ Some (record { state = s; residuals = rs }) ]
 
 -- "The start pair, the start facts with the remainders they leave"
 unfoldable pub start_node : Job → Option Node
 unfolding alive residuals
-start_node j = alive j.start (residuals j.constraints (record { state = j.start; made = none }))
+start_node j = alive j.start (residuals j.constraints (record { state = j.start; made = None }))
 
 -- the node after action i, where it is applicable
 unfoldable pub next_node : Job → Node → ℕ → Option Node
 unfolding alive applicable after progressed_all action_of
 next_node j n i = elim (applicable (action_of j i) n.state) [
-  | false ↦ none
-  | true ↦ (let s = after (action_of j i) n.state in alive s (progressed_all j.constraints n.residuals (record { state = s; made = some i })))
+  | false ↦ None
+  | true ↦ (let s = after (action_of j i) n.state in alive s (progressed_all j.constraints n.residuals (record { state = s; made = Some i })))
 ]
 
 -- "whose state has the goal and whose rule remainders are true of the closing world alone"
 unfoldable pub is_goal : Job → Node → Bool
 unfolding within closing_all
 is_goal j n = elim (within j.goal n.state) [
-  | true ↦ closing_all j.constraints n.residuals (record { state = n.state; made = none })
+  | true ↦ closing_all j.constraints n.residuals (record { state = n.state; made = None })
   | false ↦ false
 ]
 
 -- "The start pair's hint remainders come from the start facts."
 unfoldable pub start_hints : Job → List ℕ
 unfolding residuals
-start_hints j = residuals j.hints (record { state = j.start; made = none })
+start_hints j = residuals j.hints (record { state = j.start; made = None })
 
 unfoldable pub carry_hints : Job → List ℕ → Node → ℕ → List ℕ
 unfolding progressed_all
-carry_hints j h n i = progressed_all j.hints h (record { state = n.state; made = some i })
+carry_hints j h n i = progressed_all j.hints h (record { state = n.state; made = Some i })
 
 -- a hint's number and a setting of its parts
 pub record HintSetting : Type 0 where

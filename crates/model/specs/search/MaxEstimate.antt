@@ -1,6 +1,5 @@
 -- What the max estimate is: the sentences of card 2 as equations over the costs of facts, and what is shown of the function that gives it.
-use Rattle.std.specs.Prelude.{◌≡◌, ℕ, ◌+◌, ◌≤◌, ◌<◌, true, false, ◌↔◌, List, length}
-use Rattle.std.proofs.Math.Option.{Option, none, some}
+use Rattle.std.specs.Prelude.{◌≡◌, ℕ, ◌+◌, ◌≤◌, ◌<◌, true, false, ◌↔◌, List, length, Option, None, Some}
 use Rattle.model.specs.Bits.{bit}
 use Rattle.model.specs.job.Job.{Job, action_of}
 use Rattle.model.specs.task.State.{within, applicable, after}
@@ -9,8 +8,8 @@ use Rattle.model.specs.search.Estimate.{estimate_of}
 
 -- A cost is at most t. What cannot be built costs none, which is above every number.
 abbrev pub AtMost : Option ℕ → ℕ → Type 0
-AtMost none t = ⊥
-AtMost (some c) t = c ≤ t
+AtMost None t = ⊥
+AtMost (Some c) t = c ≤ t
 
 -- the cost of each fact
 abbrev pub Costs : Type 0
@@ -23,7 +22,7 @@ module _ (j : Job) where
 
   pub record Solves (s : ℕ) (v : Costs) : Type 0 where
     -- "a true fact costs 0,"
-    pub true_fact : (f : ℕ) → bit s f ≡ true → v f ≡ some 0
+    pub true_fact : (f : ℕ) → bit s f ≡ true → v f ≡ Some 0
     -- "any other the least over steps that add it of the step's cost plus the dearest needed fact": it is at most t if that of one of them is
     pub other : (f t : ℕ) → bit s f ≡ false → AtMost (v f) t ↔ ((i : ℕ) × (i < length j.actions) × (bit (action_of j i).add f ≡ true) × Ready v i t)
 

@@ -1,7 +1,6 @@
 -- Action sequences: document 01 calls them step lists.
-use Rattle.std.specs.Prelude.{◌≡◌, ℕ, ◌+◌, ◌≤◌, ◌<◌, Bool, ◌&&◌, ◌⊎◌, length, ltb}
+use Rattle.std.specs.Prelude.{◌≡◌, ℕ, ◌+◌, ◌≤◌, ◌<◌, Bool, ◌&&◌, ◌⊎◌, length, ltb, None, Some}
 use Rattle.std.proofs.Math.Bool.{true, false}
-use Rattle.std.proofs.Math.Option.{none, some}
 use mathlib.Core.List.{List, [], ◌∷◌}
 use Rattle.model.specs.logic.Truth.{World, all_hold}
 use Rattle.model.specs.job.Job.{Job, action_of}
@@ -19,13 +18,13 @@ module _ (j : Job) where
   -- final facts with no step"
   unfoldable pub worlds_after : ℕ → List ℕ → List World
   unfolding after action_of
-  worlds_after s [] = record { state = s; made = none } ∷ []
-  worlds_after s (i ∷ is) = record { state = after (action_of j i) s; made = some i } ∷ worlds_after (after (action_of j i) s) is
+  worlds_after s [] = record { state = s; made = None } ∷ []
+  worlds_after s (i ∷ is) = record { state = after (action_of j i) s; made = Some i } ∷ worlds_after (after (action_of j i) s) is
 
   -- "A step list gives a sequence of worlds: the start facts; .. The empty list gives two worlds."
   unfoldable pub worlds : List ℕ → List World
   unfolding worlds_after
-  worlds p = record { state = j.start; made = none } ∷ worlds_after j.start p
+  worlds p = record { state = j.start; made = None } ∷ worlds_after j.start p
 
   -- "a list of applicable steps", each the number of one
   unfoldable pub executable : ℕ → List ℕ → Bool

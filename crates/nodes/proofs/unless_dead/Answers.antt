@@ -1,18 +1,10 @@
 -- `unless_dead` looks at as many residuals as there are constraints.
-use mathlib.Core.Path.{◌≡◌}
-use native.Mathlib.Omega.{arith}
-use Rattle.model.specs.job.Layout.{constraint_count}
-use Rattle.job.proofs.Accepted.{accepted_laid}
-use Rattle.nodes.proofs.Arrivals.{made}
+use Rattle.std.proofs.Common.{sym, ◌∙◌}
+use Rattle.nodes.proofs.Arrivals.{made_none, made_some}
 use Rattle.nodes.proofs.unless_dead.Goals as goal
 
-pub constraint_count-requires : goal.constraint_count-requires
-constraint_count-requires c = (accepted_laid _ c.requires).head.whole
-
-pub some_dead-requires : goal.some_dead-requires
-some_dead-requires c = let l = accepted_laid _ c.requires in omega arith
+pub returns-then-some_dead : goal.returns-then-some_dead
+returns-then-some_dead c = made_none _ _ _ c.constraint_count.ensures.count.0 (sym c.some_dead.ensures ∙ c.if-some_dead.true)
 
 pub returns : goal.returns
-returns c =
-    let e : c.wide-count.result ≡ constraint_count c.args.job.now = omega arith in
-    made _ c.args.facts c.args.rs _ _ e c.some_dead.ensures c.node_of.ensures
+returns c = made_some _ _ _ c.constraint_count.ensures.count.0 (sym c.some_dead.ensures ∙ c.if-some_dead.false) c.node_of.ensures

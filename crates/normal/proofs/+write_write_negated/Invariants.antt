@@ -1,6 +1,5 @@
 -- The measure of `write` and of `write_negated` is the number of bytes left.
-use Prim.Native.Nat.{◌-◌}
-use lib.ListN.{length}
+use Rattle.std.proofs.Common.{◌-◌, length}
 use Rattle.normal.proofs.+write_write_negated.Given as goal
 
 abbrev pub decreases-write : goal.decreases-write

@@ -1,29 +1,38 @@
--- `write_back` hands the verdict and the length to the laws of writing back.
-use mathlib.Core.Path.{sym, ◌∙◌}
-use Rattle.normal.proofs.WritingBack.{has_room, refused, too_short, fits, done}
+-- `write_back` hands the verdict and the bytes to the laws of writing back.
+use Rattle.std.proofs.Common.{refl, sym, ◌∙◌, length-take-le}
+use Rattle.std.proofs.lemmas.Result.{err_from_is_err_and}
+use Rattle.normal.proofs.WritingBack.{Aside, has_room, aside, refused, too_short, done}
 use Rattle.normal.proofs.write_back.Goals as goal
+use Rattle.normal.proofs.write_back.Goals.{After-write-needed}
 
-pub measure-needed-requires : goal.measure-needed-requires
-measure-needed-requires c = let a = c.args in has_room a.facts a.actions a.rule.now (sym c.rule_verdict.ensures ∙ c.in-Fine.is)
+pub returns-in_err-check_rule : goal.returns-in_err-check_rule
+returns-in_err-check_rule c =
+    let p = err_from_is_err_and c.from_residual.result c.from_residual.ensures.1 in
+    rw (p.1, p.2) (refused _ _ _ c.args.out.now _ c.in_err-check_rule.ensures)
+
+pub write-needed-requires : goal.write-needed-requires
+write-needed-requires c = has_room _ _ _ c.in_ok-check_rule.ensures
+
+-- the normal form stands in `text`
+text : (c : After-write-needed) → Aside c.args.rule.now c.write-needed.new.out c.write-needed.result.to
+text c = aside _ _ _ c.in_ok-check_rule.ensures _ _ _ refl c.write-needed.ensures
 
 pub returns-then-out-needed : goal.returns-then-out-needed
 returns-then-out-needed c =
-    let a = c.args in
-    let m = c.measure-needed in
-    too_short a.facts a.actions a.rule.now a.out.now (sym c.rule_verdict.ensures ∙ c.in-Fine.is) m.result m.ensures c.if-out-needed.true
+    rw c.new.ensures
+    (too_short _ _ _ c.args.out.now c.in_ok-check_rule.ensures (text (goal.at.returns-then-out-needed c).After-write-needed) c.if-out-needed.true)
 
-pub write-requires : goal.write-requires
-write-requires c =
-    let a = c.args in
-    let m = c.measure-needed in
-    fits a.facts a.actions a.rule.now a.out.now (sym c.rule_verdict.ensures ∙ c.in-Fine.is) m.result m.ensures c.if-out-needed.false
+pub slice_bounds-text-end : goal.slice_bounds-text-end
+slice_bounds-text-end c = (text (goal.at.slice_bounds-text-end c).After-write-needed).inside
 
-pub returns-in-Bad : goal.returns-in-Bad
-returns-in-Bad c = let a = c.args in refused a.facts a.actions a.rule.now a.out.now c.in-Bad.r (sym c.rule_verdict.ensures ∙ c.in-Bad.is)
+pub slice_bounds-copy_from_slice-end-3 : goal.slice_bounds-copy_from_slice-end-3
+slice_bounds-copy_from_slice-end-3 c = sym (length-take-le _ _ (text (goal.at.slice_bounds-copy_from_slice-end-3 c).After-write-needed).inside)
 
-pub returns-else-out-needed : goal.returns-else-out-needed
-returns-else-out-needed c =
-    let a = c.args in
-    let m = c.measure-needed in
-    done a.facts a.actions a.rule.now a.out.now (sym c.rule_verdict.ensures ∙ c.in-Fine.is) m.result m.ensures c.if-out-needed.false
-    c.write.new.out c.write.ensures.1
+pub copy_from_slice-requires : goal.copy_from_slice-requires
+copy_from_slice-requires c =
+    length-take-le _ _ c.if-out-needed.false ∙ sym (length-take-le _ _ (text (goal.at.copy_from_slice-requires c).After-write-needed).inside)
+
+pub returns : goal.returns
+returns c =
+    rw c.copy_from_slice.ensures.after
+    (done _ _ _ c.args.out.now c.in_ok-check_rule.ensures (text (goal.at.returns c).After-write-needed) c.if-out-needed.false)

@@ -1,12 +1,15 @@
 -- The two slots at hand are to be compared in place of the two given, and have fewer steps each turn.
-use mathlib.Core.Path.{◌≡◌}
-use Rattle.paths.specs.Chain.{held, parent_at, steps_at, order, Level}
+use Rattle.std.proofs.Common.{◌≡◌}
+use Rattle.paths.specs.Chain.{parent_at, steps_at, order, Level}
 use Rattle.paths.proofs.before.Given as goal
 
 abbrev pub invariant-loop-p : goal.invariant-loop-p
-invariant-loop-p l =
-    (order (held l.t l.n) l.x l.y ≡ order (held l.t l.n) l.i l.j) × Level (held l.t l.n) l.n l.i l.j × (l.p ≡ parent_at (held l.t l.n) l.i) ×
-    (l.q ≡ parent_at (held l.t l.n) l.j)
+invariant-loop-p l = record {
+  same : order l.t.slots l.x l.y ≡ order l.t.slots l.i l.j;
+  level : Level l.t.slots l.i l.j;
+  p_is : l.p ≡ parent_at l.t.slots l.i;
+  q_is : l.q ≡ parent_at l.t.slots l.j;
+}
 
 abbrev pub decreases-loop-p : goal.decreases-loop-p
-decreases-loop-p l = steps_at (held l.t l.n) l.i
+decreases-loop-p l = steps_at l.t.slots l.i

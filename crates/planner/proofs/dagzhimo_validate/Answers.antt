@@ -2,8 +2,8 @@
 use Rattle.planner.proofs.NumberLaws.{passed, refused}
 use Rattle.planner.proofs.dagzhimo_validate.Goals as goal
 
-pub returns-in-Passed : goal.returns-in-Passed
-returns-in-Passed c = passed _ _ _ _ _ c.validate.ensures c.in-Passed.is c.wide.ensures.0
+pub returns-in-Ok : goal.returns-in-Ok
+returns-in-Ok c = passed _ _ _ _ c.validate.ensures c.in-Ok.is c.from.ensures
 
-pub returns-in-Refused : goal.returns-in-Refused
-returns-in-Refused c = refused _ _ _ _ c.validate.ensures c.in-Refused.is c.wide-in-Refused.ensures.0
+pub returns-in-Err : goal.returns-in-Err
+returns-in-Err c = refused _ _ _ _ c.validate.ensures c.in-Err.is c.refused.ensures

@@ -1,6 +1,5 @@
 -- The exported writing back answers with the numbers of the proved one, and leaves the buffer as it does.
-use mathlib.Core.Path.{◌≡◌, ap₂, ◌∙◌}
-use Prim.Native.Nat.{ℕ}
+use Rattle.std.proofs.Common.{◌≡◌, ap₂, ◌∙◌, ℕ}
 use Rattle.model.specs.calls.WriteBack.{write_end, written_back}
 use Rattle.planner.proofs.NumberLaws.{capped_same, written, not_written}
 use Rattle.planner.proofs.dagzhimo_write_back.Goals as goal
@@ -15,8 +14,8 @@ is c =
     ∙ ap₂ (λ (v a : ℕ). written_back v a s.rule.now s.buffer.now) c.count.ensures c.count-2.ensures
     ∙ capped_same s.facts s.steps s.rule.now s.buffer.now
 
-pub returns-in-Written : goal.returns-in-Written
-returns-in-Written c = written (is (goal.at.returns-in-Written c).After-write_back) _ c.in-Written.is
+pub returns-in-Ok : goal.returns-in-Ok
+returns-in-Ok c = written (is (goal.at.returns-in-Ok c).After-write_back) _ c.in-Ok.is
 
-pub returns-in-Refused : goal.returns-in-Refused
-returns-in-Refused c = not_written (is (goal.at.returns-in-Refused c).After-write_back) _ _ c.in-Refused.is c.wide.ensures.0
+pub returns-in-Err : goal.returns-in-Err
+returns-in-Err c = not_written (is (goal.at.returns-in-Err c).After-write_back) _ _ c.in-Err.is c.refused.ensures

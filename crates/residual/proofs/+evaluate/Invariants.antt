@@ -1,6 +1,5 @@
 -- The measure of `evaluate`'s recursion is the number of bytes left.
-use Prim.Native.Nat.{◌-◌}
-use lib.ListN.{length}
+use Rattle.std.proofs.Common.{◌-◌, length}
 use Rattle.residual.proofs.+evaluate.Given as goal
 
 abbrev pub decreases-evaluate : goal.decreases-evaluate

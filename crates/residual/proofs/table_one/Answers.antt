@@ -1,7 +1,7 @@
 -- The table of a formula with one operand: the machine's operations go by bits.
-use mathlib.Core.Path.{refl}
-use lib.Bits.{or_lt}
-use lib.Pow.{ones_sub-lt}
+use Rattle.std.proofs.Common.{refl}
+use Rattle.std.proofs.Math.Pow.{ones_sub-lt}
+use Rattle.std.specs.Int.Bits.{or_lt}
 use Rattle.model.proofs.bits.Bitwise.{bit_and_lem, bit_or_lem, and_lt}
 use Rattle.bits.proofs.BitLaws.{bit_not}
 use Rattle.residual.specs.Node.{table1}

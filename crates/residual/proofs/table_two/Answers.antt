@@ -1,8 +1,6 @@
 -- The table of a formula with two operands: the machine's operations go by bits.
-use mathlib.Core.Path.{◌≡◌, ap, ◌∙◌}
-use mathlib.Core.Bool.{Bool, ◌&&◌, ◌||◌}
-use Prim.Native.Nat.{ℕ, ◌^◌, ◌<◌}
-use lib.Bits.{bit_and, bit_or, or_lt}
+use Rattle.std.proofs.Common.{◌≡◌, ap, ◌∙◌, ℕ, ◌^◌, ◌<◌, Bool, ◌&&◌, ◌||◌, bit_and, bit_or}
+use Rattle.std.specs.Int.Bits.{or_lt}
 use Rattle.model.specs.Bits.{bit, of_bits}
 use Rattle.model.proofs.bits.Bitwise.{bit_and_lem, bit_or_lem, and_lt}
 use Rattle.residual.specs.Node.{table2}

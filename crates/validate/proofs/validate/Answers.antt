@@ -1,19 +1,17 @@
--- `validate` refuses a call that is not accepted, and reads the step list of any other through.
-use Rattle.model.specs.calls.Call.{call}
-use Rattle.rights.proofs.AcceptedCalls.{when_usable, when_refused}
-use Rattle.validate.proofs.Verdicts.{call_refused, call_read}
+-- `validate` refuses a call that is not accepted and a step list that is too long, and walks any other.
+use Rattle.std.proofs.Common.{sym, leb-true}
+use Rattle.model.proofs.job.VerdictLaws.{unless_fine}
+use Rattle.validate.proofs.Verdicts.{call_refused, too_long, read_through}
 use Rattle.validate.proofs.validate.Goals as goal
 
-pub read_through-requires : goal.read_through-requires
-read_through-requires c = (when_usable (call c.args.job.now c.args.needs.now c.args.rights) c.accept-accepted.ensures c.in-Usable.is).job_fine
+pub returns-in_err-query : goal.returns-in_err-query
+returns-in_err-query c = call_refused _ _ c.from_residual.ensures.1 c.in_err-query.ensures
 
-pub returns-in-Refused : goal.returns-in-Refused
-returns-in-Refused c =
-    let a = call c.args.job.now c.args.needs.now c.args.rights in
-    call_refused a c.args.steps.now _ (when_refused a c.accept-accepted.ensures c.in-Refused.is)
+pub returns-in_err-unless : goal.returns-in_err-unless
+returns-in_err-unless c = too_long _ _ c.in_ok-query.ensures c.from_residual-in_err-unless.ensures.1 c.in_err-unless.ensures
 
-pub returns-in-Usable : goal.returns-in-Usable
-returns-in-Usable c =
-    let a = call c.args.job.now c.args.needs.now c.args.rights in
-    let k = when_usable a c.accept-accepted.ensures c.in-Usable.is in
-    call_read a c.args.steps.now _ _ k.fine k.usable c.read_through.ensures
+pub in_workspace-requires : goal.in_workspace-requires
+in_workspace-requires c = leb-true _ _ ((unless_fine _ 6 65535).0 (sym c.in_ok-unless.ensures))
+
+pub returns : goal.returns
+returns c = read_through _ _ c.in_ok-query.ensures c.in_ok-unless.ensures c.in_workspace.ensures

@@ -3,4 +3,6 @@ use Rattle.expansion.proofs.Making.{key_reached}
 use Rattle.expansion.proofs.made.key_of.Goals as goal
 
 pub returns : goal.returns
-returns c = key_reached c.args.job.now c.args.from c.args.a _ _ c.extended.ensures c.cost_of.ensures c.requires
+returns c =
+    let x = c.args.x.now in
+    key_reached c.args.job.now x.from x.action _ _ c.extended.ensures c.cost_of.ensures c.requires

@@ -1,7 +1,5 @@
 -- What was in the first entry goes to the second, and the answer to the first.
-use mathlib.Core.Path.{ap, ◌∙◌, subst⁻¹}
-use mathlib.Core.List.{List}
-use Prim.Native.Nat.{ℕ, ◌+◌, ◌*◌}
+use Rattle.std.proofs.Common.{sym, ap, ◌∙◌, subst, List, ℕ, ◌+◌, ◌*◌}
 use Rattle.progression.specs.Workspace.{written, Remembers}
 use Rattle.progression.proofs.EntryLaws.{remembered}
 use Rattle.progression.proofs.entries.remember.Goals as goal
@@ -9,6 +7,6 @@ use Rattle.progression.proofs.entries.remember.Goals as goal
 pub returns : goal.returns
 returns c =
     let a = c.args in
-    subst⁻¹ (Remembers a.work.now a.q a.x)
-    (c.put-2.ensures ∙ ap (λ (v : List ℕ). written v (32 + 4 * a.e) a.q a.x) c.put.ensures)
-    (remembered a.work.now a.e a.q a.x c.requires)
+    subst (Remembers a.words.now a.q a.x)
+    (sym (c.put-2.ensures ∙ ap (λ (v : List ℕ). written v (32 + 4 * a.e) a.q a.x) c.put.ensures))
+    (remembered a.words.now a.e a.q c.question_at-old.result a.x c.question_at-old.ensures c.requires)

@@ -1,23 +1,10 @@
 -- `first` lends the section on to the evaluator, whose answer is of the formula in it.
-use native.Mathlib.Omega.{arith}
-use mathlib.Core.Path.{◌∙◌}
-use Rattle.job.proofs.Accepted.{accepted_laid}
+use Rattle.std.proofs.Common.{◌∙◌}
 use Rattle.progression.proofs.Lent.{lent_ready, lent_residual}
 use Rattle.progression.proofs.section.first.Goals as goal
 
-pub section_offset-start-requires : goal.section_offset-start-requires
-section_offset-start-requires c = (accepted_laid _ c.requires.0).pair _ c.requires.2
-
-pub section_length-requires : goal.section_length-requires
-section_length-requires c = (accepted_laid _ c.requires.0).pair _ c.requires.2
-
-pub slice_bounds-first-end : goal.slice_bounds-first-end
-slice_bounds-first-end c = omega (arith, (accepted_laid _ c.requires.0).section c.args.i c.requires.2)
-
 pub first-requires : goal.first-requires
-first-requires c = lent_ready _ c.requires.0 _ c.requires.1 c.requires.2 c.section_offset-start.ensures.0 c.section_length.ensures.0
+first-requires c = let s = c.section.ensures in lent_ready _ s.accepted _ c.requires.0 c.requires.1 _ s.bytes
 
 pub returns : goal.returns
-returns c =
-    c.first.ensures ∙ lent_residual _ c.requires.0 _ c.requires.1 c.requires.2 c.section_offset-start.ensures.0
-    c.section_length.ensures.0 _
+returns c = let s = c.section.ensures in c.first.ensures ∙ lent_residual _ s.accepted _ c.requires.0 c.requires.1 _ s.bytes _

@@ -1,8 +1,5 @@
 -- Dead by the first test, true at every setting by the second.
-use mathlib.Core.Path.{sym, ap, ◌∙◌}
-use mathlib.Core.Bool.{Bool, ◌||◌}
-use lib.Dec.{eqb}
-use borrow.Author.Tests.{eq-eqb, ne_eqb}
+use Rattle.std.proofs.Common.{sym, ap, ◌∙◌, Bool, ◌||◌, eqb, eq-eqb, ne_eqb}
 use Rattle.model.specs.logic.Parts.{most_parts}
 use Rattle.model.specs.logic.Progression.{dead, all_true, settled}
 use Rattle.progression.proofs.section.is_settled.Goals as goal

@@ -1,7 +1,5 @@
 -- `read` takes the truth of one code a turn from what is ahead to what was read.
-use native.Mathlib.Omega.{arith}
-use mathlib.Core.Path.{refl}
-use Rattle.model.specs.logic.Reading.{parsed}
+use Rattle.std.proofs.Common.{refl, arith}
 use Rattle.residual.proofs.Passing.{starts_passed, legible, code_further, code_more, ends_passed}
 use Rattle.residual.proofs.facts.read.Goals as goal
 
@@ -9,13 +7,13 @@ pub loop-r-init : goal.loop-r-init
 loop-r-init c = starts_passed _ _ _ refl c.requires
 
 pub read_code-r-requires : goal.read_code-r-requires
-read_code-r-requires c = legible c.args.s.now c.args.state (parsed 64 64 c.args.s.now 0) c.requires _ _ c.loop-r.invariant c.loop-r-test.true
+read_code-r-requires c = legible _ _ _ c.requires _ _ c.loop-r.invariant c.loop-r-test.true
 
 pub loop-r-smaller : goal.loop-r-smaller
-loop-r-smaller c = omega (arith, c.loop-r-test.true, code_further c.args.s.now c.args.state c.loop-r.r _ c.read_code-r.ensures)
+loop-r-smaller c = omega (arith, c.loop-r-test.true, code_further _ _ _ _ c.read_code-r.ensures)
 
 pub loop-r-preserved : goal.loop-r-preserved
-loop-r-preserved c = code_more c.args.s.now c.args.state _ _ _ c.loop-r.invariant c.loop-r-test.true c.read_code-r.ensures
+loop-r-preserved c = code_more _ _ _ _ _ c.loop-r.invariant c.loop-r-test.true c.read_code-r.ensures
 
 pub returns : goal.returns
-returns c = ends_passed c.args.s.now c.args.state _ _ c.loop-r.invariant (omega (arith, c.loop-r-test.false))
+returns c = ends_passed _ _ _ _ c.loop-r.invariant (omega (arith, c.loop-r-test.false))

@@ -1,6 +1,5 @@
 -- What was read and what is ahead make up the truths of the formula's fact codes: the invariant.
-use Prim.Native.Nat.{◌-◌}
-use lib.ListN.{length}
+use Rattle.std.proofs.Common.{◌-◌, length}
 use Rattle.model.specs.logic.Reading.{parsed}
 use Rattle.residual.specs.Facts.{truths_read}
 use Rattle.residual.proofs.Passing.{Passed}

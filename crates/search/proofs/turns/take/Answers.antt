@@ -1,31 +1,24 @@
 -- `take` marks the slot, which is the turn if it is cut; else its expansion is.
-use mathlib.Core.Path.{sym, ◌∙◌}
-use native.Mathlib.Omega.{arith}
-use Rattle.search.proofs.TurnLaws.{cut_on, uncut_busy, grown_turned, full_ends}
+use Rattle.std.proofs.Common.{refl, sym}
+use Rattle.search.proofs.TurnLaws.{cut_turned, uncut_busy, grown_turned, full_ends}
 use Rattle.search.proofs.turns.take.Goals as goal
-
-pub returns-then-cut : goal.returns-then-cut
-returns-then-cut c = (
-  cut_on c.requires.0 c.mark.new.t c.mark.ensures (omega arith) (sym c.slot_cut-cut.ensures ∙ c.if-cut.true),
-  c.requires.1,
-)
+use Rattle.search.proofs.turns.take.Goals.{else-not-cut-via-then-not-cut+else-is_err, else-not-cut-via-else-not-cut}
 
 pub expand-requires : goal.expand-requires
-expand-requires c = (
-  uncut_busy c.requires.0 c.mark.new.t c.mark.ensures (omega arith) (sym c.slot_cut-cut.ensures ∙ c.if-cut.false),
-  c.requires.1,
-)
+expand-requires c = rw c.mark.ensures (uncut_busy c.requires (rw c.job.ensures at c.if-not-cut.ensures))
 
-pub returns-in-Held : goal.returns-in-Held
-returns-in-Held c = (
-  grown_turned c.requires.0 c.mark.new.t c.mark.ensures (omega arith) (sym c.slot_cut-cut.ensures ∙ c.if-cut.false)
-      c.expand.ensures.0 _ c.in-Held.is (omega arith),
+pub returns-then-is_err : goal.returns-then-is_err
+returns-then-is_err c = (
+  full_ends c.requires (rw c.job.ensures at c.if-not-cut.ensures) _ _ (rw c.mark.ensures at c.expand.ensures.0) (sym c.if-is_err.ensures.value),
   c.expand.ensures.1,
 )
 
-pub returns-in-Full : goal.returns-in-Full
-returns-in-Full c = (
-  full_ends c.requires.0 c.mark.new.t c.mark.ensures (omega arith) (sym c.slot_cut-cut.ensures ∙ c.if-cut.false)
-      c.expand.ensures.0 c.in-Full.is,
-  c.expand.ensures.1,
-)
+pub returns : goal.returns
+returns c =
+    elim c.else-not-cut.branch [
+      | else-not-cut-via-then-not-cut+else-is_err w ↦ rw (w.t-is, w.work-is) (
+        grown_turned c.requires (rw c.job.ensures at w.if-not-cut.ensures) _ _ (rw c.mark.ensures at w.expand.ensures.0) (sym w.if-is_err.ensures.value),
+        w.expand.ensures.1,
+      )
+      | else-not-cut-via-else-not-cut w ↦ rw (w.t-is, w.work-is, c.mark.ensures) (cut_turned c.requires (rw c.job.ensures at w.if-not-cut.ensures), refl)
+    ]

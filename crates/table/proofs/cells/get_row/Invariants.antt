@@ -1,14 +1,8 @@
 -- The first j words are read.
-use mathlib.Core.Path.{◌≡◌}
-use mathlib.Core.List.{◌++◌}
-use Prim.Native.Nat.{◌+◌, ◌*◌, ◌≤◌, ◌-◌}
-use lib.ListN.{drop, replicate}
+use Rattle.std.proofs.Common.{◌≡◌, ◌++◌, ◌+◌, ◌*◌, drop, replicate}
 use Rattle.model.specs.job.Job.{list_of}
 use Rattle.table.specs.Cells.{word, row_words}
 use Rattle.table.proofs.cells.get_row.Given as goal
 
 abbrev pub invariant-loop-j : goal.invariant-loop-j
-invariant-loop-j l = (l.a ≡ list_of (λ k. word l.t (l.i * row_words + k)) l.j ++ drop l.j (replicate row_words 0)) × (l.j ≤ row_words)
-
-abbrev pub decreases-loop-j : goal.decreases-loop-j
-decreases-loop-j l = row_words - l.j
+invariant-loop-j l = l.a ≡ list_of (λ k. word l.t (l.i * row_words + k)) l.j ++ drop l.j (replicate row_words 0)

@@ -1,44 +1,33 @@
 -- `choose` takes the better of a slot and the best after it.
-use mathlib.Core.Path.{◌≡◌, sym, ◌∙◌}
-use mathlib.Core.Bool.{false}
-use Prim.Native.Nat.{◌+◌}
-use Rattle.table.specs.declared.Slot.{Slot}
+use Rattle.std.proofs.Common.{◌≡◌, sym, ap, ◌∙◌, false}
+use Rattle.model.specs.exploration.Key.{less}
+use Rattle.task.specs.Meaning.{key_is}
+use Rattle.task.proofs.KeyLaws.{lt_is_less}
+use Rattle.table.specs.declared.lookup.Candidate.{Candidate}
 use Rattle.table.specs.Slots.{slot_at}
 use Rattle.table.proofs.LookupLaws.{better_taken, better_first, better_behind, better_here}
 use Rattle.table.proofs.lookup.choose.Goals as goal
-use Rattle.table.proofs.lookup.choose.Goals.{After-steps-steps}
+use Rattle.table.proofs.lookup.choose.Goals.{After-rank-rank, After-lt}
 
--- ---- what is known once the rank of the slot, which is open, was read
-
--- the slot i, as the bytes are at the start
-abbrev slot : After-steps-steps → Slot
-slot c = slot_at c.args.t.now c.args.i
-
-is_open : (c : After-steps-steps) → false ≡ (slot c).taken
+is_open : (c : After-rank-rank) → false ≡ (slot_at c.args.t.now c.args.i).taken
 is_open c = sym c.if-is_taken.false ∙ c.is_taken.ensures
 
-cost : (c : After-steps-steps) → c.estimated_cost-cost.result ≡ (slot c).cost + (slot c).estimate
-cost c = c.estimated_cost-cost.ensures
-
-steps : (c : After-steps-steps) → c.steps-steps.result ≡ (slot c).steps
-steps c = c.steps-steps.ensures.0
-
--- ---- the ways out
+is_less : (c : After-lt) → c.lt.result ≡ less (key_is c.in-Some.b.rank) (key_is c.rank-rank.result)
+is_less c = lt_is_less _ _ c.lt.ensures ∙ ap (λ (b : Candidate). less (key_is b.rank) (key_is c.rank-rank.result)) c.in-Some.b-is
 
 pub returns-then-is_taken : goal.returns-then-is_taken
 returns-then-is_taken c = better_taken _ _ _ (sym c.if-is_taken.true ∙ c.is_taken.ensures)
 
-pub returns-in-NoOpen : goal.returns-in-NoOpen
-returns-in-NoOpen c =
-    better_first _ _ _ (is_open (goal.at.returns-in-NoOpen c).After-steps-steps) _ _ (cost (goal.at.returns-in-NoOpen c).After-steps-steps)
-    (steps (goal.at.returns-in-NoOpen c).After-steps-steps) c.in-NoOpen.is
+pub returns-in-Some : goal.returns-in-Some
+returns-in-Some c =
+    let a = goal.at.returns-in-Some c in
+    rw c.in-Some.is (better_behind _ _ (is_open a.After-rank-rank) _ c.rank-rank.ensures _ (sym c.if-lt.true ∙ is_less a.After-lt))
 
-pub returns-then-is_less : goal.returns-then-is_less
-returns-then-is_less c =
-    better_behind _ _ _ (is_open (goal.at.returns-then-is_less c).After-steps-steps) _ _ (cost (goal.at.returns-then-is_less c).After-steps-steps)
-    (steps (goal.at.returns-then-is_less c).After-steps-steps) _ _ _ c.in-Open.is (sym c.if-is_less.true ∙ c.is_less.ensures)
+pub returns-in_default : goal.returns-in_default
+returns-in_default c =
+    let a = goal.at.returns-in_default c in
+    rw c.in-Some.is (better_here _ _ (is_open a.After-rank-rank) _ c.rank-rank.ensures _ (sym c.if-lt.false ∙ is_less a.After-lt))
 
-pub returns-else-is_less : goal.returns-else-is_less
-returns-else-is_less c =
-    better_here _ _ _ (is_open (goal.at.returns-else-is_less c).After-steps-steps) _ _ (cost (goal.at.returns-else-is_less c).After-steps-steps)
-    (steps (goal.at.returns-else-is_less c).After-steps-steps) _ _ _ c.in-Open.is (sym c.if-is_less.false ∙ c.is_less.ensures)
+pub returns-in_default-2 : goal.returns-in_default-2
+returns-in_default-2 c =
+    rw c.in_default.is (better_first _ _ (is_open (goal.at.returns-in_default-2 c).After-rank-rank) _ c.rank-rank.ensures)

@@ -1,7 +1,5 @@
 -- `is_node` compares the first word, then all.
-use native.Mathlib.Omega.{arith}
-use mathlib.Core.Path.{◌≡◌, refl, ap, ◌∙◌}
-use Prim.Native.Nat.{◌+◌, ◌*◌}
+use Rattle.std.proofs.Common.{arith, ◌≡◌, refl, ap, ◌∙◌, ◌+◌, ◌*◌}
 use Rattle.table.specs.Cells.{word, row_words}
 use Rattle.table.proofs.LookupLaws.{node_not}
 use Rattle.table.proofs.lookup.is_node.Goals as goal

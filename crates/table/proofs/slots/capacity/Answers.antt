@@ -1,6 +1,6 @@
 -- `capacity` counts whole slots.
-use native.Mathlib.Omega.{arith}
-use borrow.Author.Tests.{le-leb, lt-leb}
+use Rattle.std.proofs.Common.{arith, le-leb}
+use borrow.Author.Tests.{lt-leb}
 use Rattle.model.specs.calls.Search.{slots_in}
 use Rattle.table.proofs.slots.capacity.Goals as goal
 

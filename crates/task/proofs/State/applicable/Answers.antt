@@ -1,7 +1,5 @@
 -- Where the needed facts are true, the forbidden ones decide.
-use Rattle.std.proofs.Common.{◌≡◌, ℕ, eq-eqb, bit_and}
-use borrow.Author.Tests.{ne_eqb}
-use lib.Dec.{eqb}
+use Rattle.std.proofs.Common.{◌≡◌, ℕ, eq-eqb, bit_and, ne_eqb, eqb}
 use Rattle.model.specs.job.Job.{Action}
 use Rattle.model.specs.task.State.{within, apart, applicable}
 use Rattle.task.proofs.State.applicable.Goals as goal

@@ -1,18 +1,15 @@
 -- `judged` answers the first refusal at the end, or the cost and the hint bits.
-use mathlib.Core.Path.{sym, ap, ◌∙◌}
-use Prim.Native.Nat.{ℕ}
-use Rattle.model.specs.declared.Validated.TheVariants.{Passed}
-use Rattle.validate.specs.Walk.{judged}
+use Rattle.std.proofs.Common.{Ok, ap}
+use Rattle.model.specs.Results.{passed}
 use Rattle.model.proofs.job.Accepted.{length-hints}
-use Rattle.validate.proofs.Verdicts.{answer_bad, answer_fine}
+use Rattle.validate.specs.Walk.{judged}
+use Rattle.validate.proofs.Verdicts.{answer_refused, answer_fine}
 use Rattle.validate.proofs.end.judged.Goals as goal
 
-pub returns-in-Bad : goal.returns-in-Bad
+pub returns-in_err-check_end : goal.returns-in_err-check_end
 unfolding judged
-returns-in-Bad c = answer_bad _ _ _ (sym c.check_end-verdict.ensures ∙ c.in-Bad.is)
+returns-in_err-check_end c = answer_refused _ _ _ c.from_residual.ensures.1 c.in_err-check_end.ensures
 
 pub returns : goal.returns
 unfolding judged
-returns c =
-    answer_fine _ _ _ (sym c.check_end-verdict.ensures ∙ c.in_default.is)
-    (ap (λ (b : ℕ). Passed c.args.w.cost b) (rw length-hints c.hint_bits-bits.ensures))
+returns c = answer_fine _ _ _ c.in_ok-check_end.ensures (ap (λ b. Ok (passed c.args.w.cost b)) (rw length-hints c.hint_bits.ensures))
