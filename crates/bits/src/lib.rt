@@ -9,6 +9,7 @@ ghost use Rattle.bits.specs.Tables.{unknown, everywhere, fixed, selected, Upward
 use model::MOST_PARTS;
 
 // Whether bit i of x is set.
+#[tactic(auto, unfolding(model::specs::Bits::bit))]
 pub fn bit_at(x: u64, i: u8) -> bool
     requires { i < 64 }
     ensures { result ≡ bit x i }

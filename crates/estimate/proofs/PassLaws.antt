@@ -1,6 +1,6 @@
 -- One pass over the actions of a restricted job: one that may be used ends and gains as in the job; the end of another stays, and it gains nothing.
-use Rattle.std.proofs.Common.{◌≡◌, refl, sym, ap, ap₂, ◌∙◌, ℕ, ◌+◌, ◌/◌, ◌%◌, ◌^◌, ◌≤◌, ◌<◌, arith, add-one, Bool, true, false, Option, None, Some, List}
-use Rattle.std.proofs.Common.{length, length-set, get_or, set, get_or-set_same, get_or-set_other, ltb, bit_and, eq-eqb, ne_eqb}
+use Rattle.std.proofs.Common.{◌≡◌, refl, sym, ap, ap₂, ◌∙◌, ℕ, ◌+◌, ◌^◌, ◌≤◌, ◌<◌, arith, add-one, Bool, true, false, Option, None, Some, List}
+use Rattle.std.proofs.Common.{length, length-set, get_or, set, get_or-set_same, get_or-set_other, ltb, bit_and, ne_eqb}
 use Rattle.std.proofs.lemmas.List.{set-get_or}
 use Rattle.std.proofs.lemmas.Nat.{and_le_r}
 use Rattle.std.proofs.Math.Decide.{ℕ_discrete}
@@ -131,18 +131,16 @@ module _ (u : ℕ) (bytes : List ℕ) where
 
   module _ {built level i : ℕ} {before after xs : Ends} {best g : Option Gain} (p : Passed (restricted u (job_of bytes)) built level before after i best)
       (l : i < action_count bytes) (m : i < length xs) where
-    pub passed_usable : {e : Option ℕ} {r : Option Gain} → u / 2 ^ i % 2 ≡ 1 → xs ≡ set after i e
+    pub passed_usable : {e : Option ℕ} {r : Option Gain} → bit u i ≡ true → xs ≡ set after i e
         → e ≡ end_of (job_of bytes) built level (get_or after i None) i → StaysLow level (get_or after i None) e
         → r ≡ sooner best (gain_of (job_of bytes) built e i) → g ≡ r → Passed (restricted u (job_of bytes)) built level before xs (i + 1) g
-    unfolding bit end_of gain_of end_by gain_by
-    passed_usable t f n low s q =
-        passed_more _ _ _ p (rw counted l) m f (action_usable u (job_of bytes) i (eq-eqb (u / 2 ^ i % 2) 1 t)) n low (q ∙ s)
+    unfolding end_of gain_of end_by gain_by
+    passed_usable t f n low s q = passed_more _ _ _ p (rw counted l) m f (action_usable u (job_of bytes) i t) n low (q ∙ s)
 
-    pub passed_barred : (u / 2 ^ i % 2 ≡ 1 → ⊥) → built < 2 ^ 64 → xs ≡ after → g ≡ best
+    pub passed_barred : bit u i ≡ false → built < 2 ^ 64 → xs ≡ after → g ≡ best
         → Passed (restricted u (job_of bytes)) built level before xs (i + 1) g
-    unfolding bit
     passed_barred t b f q =
         let end = get_or after i None in
         passed_more _ _ _ p (rw counted l) m (f ∙ sym (set-get_or after i None))
-        (action_barred u (job_of bytes) i (rw length-actions l) (ne_eqb (u / 2 ^ i % 2) 1 t)) (sym (end_barred built level end b)) (λ top o w. w)
+        (action_barred u (job_of bytes) i (rw length-actions l) t) (sym (end_barred built level end b)) (λ top o w. w)
         (q ∙ sym (ap (sooner best) (gain_barred built end) ∙ sooner_none best))

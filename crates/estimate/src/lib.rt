@@ -34,7 +34,8 @@ impl Model for Gain {
     ghost inverse = { λ g. record { level = g.level; adds = g.adds } };
 }
 
-// The end of action i at a level: as it was, or its cost after the level where its needed facts are built and were not before.
+// The end of action i at a level: as it was, or its cost after the level where its needed facts are built and were not before. The values that this function
+// and the next one share stay apart: a struct of them would be built anew for each action.
 #[tactic(auto, using(job::proofs::Accepted::action_of_lem), unfolding(model::specs::search::Estimate::end_of))]
 fn end_of(job: &Job, built: u64, level: u64, end: Option<u64>, i: usize) -> Option<u64>
     requires { (i < action_count job.now) × (level ≤ highest) }
@@ -71,18 +72,18 @@ fn sooner(job: &Job, built: u64, end: Option<u64>, i: usize, best: Option<Gain>)
     }
 }
 
-// Writes the ends of the actions at a level, and finds the soonest gain, if there is one. Only the actions that the caller may use are counted: action i is
-// one of them if bit i of `usable` is set.
-#[tactic(auto, using(crate::proofs::PassLaws::counted))]
+// Writes the ends of the actions at a level, and finds the soonest gain, if there is one. Only the actions that the caller may use are counted.
+#[tactic(auto, using(crate::proofs::PassLaws::counted, crate::proofs::PassLaws::passed_none))]
 fn pass(q: &Query, built: u64, level: u64, ends: &mut [Option<u64>; ACTIONS]) -> Option<Gain>
     requires { level ≤ highest }
     ensures { Passed (job_for q.now) built level ends.old ends.new (length (job_for q.now).actions) result }
 {
     let job = q.job();
-    let usable = q.usable();
     let mut best = None;
-    for i in 0..usize::from(job.action_count()) {
-        if (usable >> i) % 2 == 1 {
+    for action in 0..job.action_count() {
+        let counted = q.may_use(action);
+        if counted {
+            let i = usize::from(action);
             let end = end_of(job, built, level, ends[i], i);
             ends[i] = end;
             best = sooner(job, built, end, i, best);

@@ -28,7 +28,7 @@ module _ {job : Query} {t : Table} {i : ℕ} {from : Slot} {a : ℕ} (x : Arrivi
   pub source : held_is job.bytes from ≡ held_is job.bytes (slot_in t.slots i)
   source = (held_one job.bytes t.slots i x.expanding.held).1
 
-  source_steps : from.steps ≡ (slot_in t.slots i).steps
+  source_steps : from.key.steps ≡ (slot_in t.slots i).key.steps
   unfolding held_is
   source_steps = ap (λ (r : Held (sys job)). r.key.steps) source
 
@@ -40,7 +40,7 @@ module _ {job : Query} {t : Table} {i : ℕ} {from : Slot} {a : ℕ} (x : Arrivi
   extends : ((j : ℕ) × (j < length t.slots) × ((slot_in t.slots j).taken ≡ false)) ⊎ (length t.slots < t.room) → Extends job.bytes from a
   unfolding held_is
   extends o =
-      let c : from.cost ≡ (slot_in t.slots i).cost = ap (λ (r : Held (sys job)). r.key.cost) source in
+      let c : from.key.cost ≡ (slot_in t.slots i).key.cost = ap (λ (r : Held (sys job)). r.key.cost) source in
       let y : (slot_in t.slots i).taken ≡ true = ap (λ (r : Held (sys job)). r.taken) (sym source) ∙ x.expanding.taken in
       let f = next_fits job t.slots x.expanding.inv {places = t.room} i x.inside y o x.running.used x.running.most in
       let s = (sound_slot i x.inside).formed in
@@ -67,7 +67,7 @@ module _ {job : Query} {t : Table} {i : ℕ} {from : Slot} {a j : ℕ} {old : Sl
   -- ---- the slot has the arrival's key
 
   module _ (same : key_by job.bytes from a ≡ (held_is job.bytes old).key) where
-    steps_more : old.steps ≡ suc from.steps
+    steps_more : old.key.steps ≡ suc from.key.steps
     unfolding held_is extend
     steps_more = ap (λ (k : Key). k.steps) (sym same)
 
@@ -83,7 +83,7 @@ module _ {job : Query} {t : Table} {i : ℕ} {from : Slot} {a j : ℕ} {old : Sl
     unfolding held_is
     parent_inside = (held_one job.bytes t.slots old.parent link.held).0
 
-    parent_steps : old.steps ≡ suc (slot_in t.slots old.parent).steps
+    parent_steps : old.key.steps ≡ suc (slot_in t.slots old.parent).key.steps
     unfolding held_is
     parent_steps = linked_steps (sys job) link ∙ ap (λ (r : Held (sys job)). suc r.key.steps) (held_one job.bytes t.slots old.parent link.held).1
 
@@ -100,8 +100,8 @@ module _ {job : Query} {t : Table} {i : ℕ} {from : Slot} {a j : ℕ} {old : Sl
     }
 
     -- The order of the two paths in the table is that of the records' paths.
-    pub compared : earlier (path_by (sys job) (held_in job.bytes t.slots) old.steps i a)
-        (path_by (sys job) (held_in job.bytes t.slots) old.steps old.parent old.action) ≡ order_by t.slots i a old.parent old.action
+    pub compared : earlier (path_by (sys job) (held_in job.bytes t.slots) old.key.steps i a)
+        (path_by (sys job) (held_in job.bytes t.slots) old.key.steps old.parent old.action) ≡ order_by t.slots i a old.parent old.action
     compared =
-        order_held job t.slots z.arriving.expanding.inv old.steps i a old.parent old.action z.arriving.inside parent_inside
+        order_held job t.slots z.arriving.expanding.inv old.key.steps i a old.parent old.action z.arriving.inside parent_inside
         (steps_more ∙ ap suc (source_steps z.arriving)) parent_steps

@@ -7,5 +7,4 @@ pub mod Relaxing
 pub mod Estimating
 pub mod Growing
 pub mod GrowthLaws
-pub mod Choosing
 pub mod Turns

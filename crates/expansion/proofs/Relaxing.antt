@@ -47,7 +47,7 @@ module _ {job : Query} {t : Table} {i : ℕ} {from : Slot} {a j : ℕ} (x : Arri
 
 module _ {job : Query} {t : Table} {i : ℕ} {from : Slot} {a j : ℕ} {old : Slot} (z : Loaded job t i from a j old) where
   -- With an equal key the ways are compared.
-  pub tied : {k : code.Key} → Reaches (key_by job.bytes from a) k → same_key (key_is k) (record { cost = old.cost; steps = old.steps }) ≡ true
+  pub tied : {k : code.Key} → Reaches (key_by job.bytes from a) k → same_key (key_is k) (key_is old.key) ≡ true
       → key_by job.bytes from a ≡ (held_is job.bytes old).key
   unfolding held_is
   tied reaches q = sym reaches.is ∙ same_key_lem _ _ q
@@ -94,17 +94,14 @@ module _ {job : Query} {t : Table} {i : ℕ} {from : Slot} {a j : ℕ} {old : Sl
       still_open : old.taken ≡ false
       still_open = ap (λ (s : Slot). s.taken) z.is ∙ z.is_open
 
-      abbrev least : Key
-      least = record { cost = old.cost; steps = old.steps }
-
       -- A lesser key replaces the slot's.
-      pub relax_less : less (key_is k) least ≡ true → {u : Table} {s : Slot} → u ≡ stored t j s
+      pub relax_less : less (key_is k) (key_is old.key) ≡ true → {u : Table} {s : Slot} → u ≡ stored t j s
           → Makes job.bytes (newcomer job.bytes i from a node old.node) old.estimate s → Relaxes job t i from a node j u
       unfolding held_is
       relax_less p e m = put e m refl (relaxed_less (sys job) _ (held_is job.bytes old) hints i a key still_open (rw reaches.is at p))
 
       -- An equal key merges.
-      pub relax_same : less (key_is k) least ≡ false → same_key (key_is k) least ≡ true → {u : Table} {s : Slot} → u ≡ stored t j s
+      pub relax_same : less (key_is k) (key_is old.key) ≡ false → same_key (key_is k) (key_is old.key) ≡ true → {u : Table} {s : Slot} → u ≡ stored t j s
           → Makes job.bytes (joined job.bytes t.slots i from a node old) old.estimate s → Relaxes job t i from a node j u
       unfolding held_is
       relax_same p q e m =
@@ -113,7 +110,7 @@ module _ {job : Query} {t : Table} {i : ℕ} {from : Slot} {a j : ℕ} {old : Sl
           ∙ tied_joined (tied reaches q))
 
       -- A larger key changes nothing.
-      pub relax_more : less (key_is k) least ≡ false → same_key (key_is k) least ≡ false → Relaxes job t i from a node j t
+      pub relax_more : less (key_is k) (key_is old.key) ≡ false → same_key (key_is k) (key_is old.key) ≡ false → Relaxes job t i from a node j t
       unfolding held_is
       relax_more p q =
           kept z.arriving z.inside node

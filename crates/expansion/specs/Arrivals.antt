@@ -14,7 +14,6 @@ use Rattle.task.specs.Meaning.{key_is}
 use Rattle.table.specs.declared.Slot.{Slot}
 use Rattle.table.specs.Slots.{slot_in, Narrow}
 use Rattle.table.specs.Tables.{Table}
-use Rattle.table.specs.Lookup.{key_of}
 use Rattle.paths.specs.Chain.{steps_at, order_by, Chained}
 use Rattle.nodes.specs.Meaning.{Clean, hints_is}
 use Rattle.astar.specs.Records.{HeldOf}
@@ -22,20 +21,6 @@ use Rattle.astar.specs.Search.{relaxed}
 use Rattle.astar.proofs.Sending.{Expanding}
 use Rattle.held.specs.Held.{sys, node_for, held_is, held_in, Formed, AllSound}
 use Rattle.held.specs.Running.{Running}
-
--- an open slot of its parts
-abbrev pub open_slot : List ℕ → List ℕ → code.Key → ℕ → ℕ → ℕ → Bool → Slot
-open_slot node hints key estimate parent action goal = record {
-  node = node;
-  hints = hints;
-  cost = key.cost;
-  steps = key.steps;
-  estimate = estimate;
-  parent = parent;
-  action = action;
-  taken = false;
-  goal = goal;
-}
 
 -- The key k in numbers that fit a slot.
 pub record Reaches (k : Key) (r : code.Key) : Type 0 where
@@ -50,8 +35,8 @@ module _ (job : List ℕ) where
   pub record Extends (from : Slot) (a : ℕ) : Type 0 where
     pub accepted : job_verdict job ≡ no_refusal
     pub known : a < action_count job
-    pub summed : from.cost ≤ 65535 * from.steps
-    pub short : from.steps + 1 < 65536
+    pub summed : from.key.cost ≤ 65535 * from.key.steps
+    pub short : from.key.steps + 1 < 65536
 
   -- A slot that was made stands for a record, is well formed, has an estimate, and fits.
   pub record Makes (r : HeldOf Node (List ℕ)) (estimate : ℕ) (s : Slot) : Type 0 where
@@ -63,7 +48,7 @@ module _ (job : List ℕ) where
   module _ (from : Slot) where
     -- its key
     abbrev pub key_by : ℕ → Key
-    key_by a = extend (record { cost = from.cost; steps = from.steps }) (action_of (job_of job) a).cost
+    key_by a = extend (key_is from.key) (action_of (job_of job) a).cost
 
     -- its hint residuals, at a node
     abbrev pub hints_by : ℕ → List ℕ → List ℕ
@@ -88,7 +73,7 @@ module _ (job : List ℕ) where
   abbrev pub both : ℕ → Slot → ℕ → List ℕ → Slot → Bool → HeldOf Node (List ℕ)
   both i from a node old first = record {
     node = node_for job old.node;
-    key = key_of old.cost old.steps;
+    key = key_is old.key;
     hints = meet_all (hints_is (hint_count job) old.hints) (hints_by from a node);
     parent = choose first i old.parent;
     action = choose first a old.action;
@@ -108,6 +93,7 @@ module _ (job : Query) where
     pub clean : Clean (constraint_count job.bytes) node
 
   -- The record of slot i, which is that of `from`, is being expanded: the actions below a were followed, and a is next.
+  -- It is asked in clauses, and no type of an arrival says it, since it is about the workspace and the table, which an arrival does not hold.
   pub record Arriving (t : Table) (i : ℕ) (from : Slot) (a : ℕ) : Type 0 where
     pub m0 : Node
     pub running : Running job m0 t

@@ -1,4 +1,6 @@
 // All arrivals from one slot of the table: each action is followed in order, and what it leads to is held.
+// The workspace and the table are lent side by side, since a struct of both would only be taken apart again. `Arriving` is about the query and the table, too,
+// which an arrival does not hold.
 #![tactic(auto)]
 
 mod made; // made.rt: the slots that arrivals make
@@ -12,13 +14,25 @@ ghost use Rattle.expansion.specs.Arrivals.{Arriving, LeadsTo, Relaxes};
 ghost use Rattle.expansion.specs.Growth.{Follows, Expands};
 
 use made::Arrival;
+use model::Reason;
 use progression::Work;
 use table::{Slot, Table};
-use task::Key;
 
 // One slot more was wanted than there is room for.
 #[derive(Clone, Copy, Debug, PartialEq, Eq)]
 pub struct Full;
+
+// A search passes it on by `?` as its reason.
+impl From<Full> for Reason {
+    ghost use Rattle.std.specs.Prelude.{◌≡◌};
+    ghost use Rattle.model.specs.declared.Reason.TheVariants.{TableTooSmall};
+
+    ghost from_gives = { λ _ reason. reason ≡ TableTooSmall };
+
+    fn from(_: Full) -> Reason {
+        Reason::TableTooSmall
+    }
+}
 
 // An arrival at the node of slot j, which is held. A taken slot stays; a lesser key replaces, an equal one merges.
 fn relax(work: &mut Work, t: &mut Table, x: &Arrival, j: usize)
@@ -30,14 +44,10 @@ fn relax(work: &mut Work, t: &mut Table, x: &Arrival, j: usize)
     }
     let old = t.load(j);
     let key = made::key_of(work.job(), x);
-    let least = Key {
-        cost: old.cost,
-        steps: old.steps,
-    };
-    if key < least {
+    if key < old.key {
         let s = made::replaced(work, x, key, &old);
         t.store(j, s);
-    } else if key == least {
+    } else if key == old.key {
         let s = made::merged(work, t, x, &old);
         t.store(j, s);
     }
@@ -90,12 +100,11 @@ pub fn expand(work: &mut Work, t: &mut Table, i: usize) -> Result<(), Full>
     ensures { Expands work.old t.old i result t.new × (work.new ≡ work.old) }
 {
     let from = t.load(i);
-    let mut choices = nodes::choices(work.query(), from.node);
+    let choices = nodes::choices(work.query(), from.node);
     for a in 0..work.job().action_count() {
-        if choices % 2 == 1 {
+        if bits::bit_at(choices, a) {
             follow(work, t, i, from, a)?;
         }
-        choices /= 2;
     }
     Ok(())
 }

@@ -1,11 +1,11 @@
-// The slots that arrivals make: of a new node, and in place of the slot of a node that is held. What an arrival is asked (`Extends`) is no promise of its
+// The slots that arrivals make: of a new node, and in place of the slot of a node that is held. What is asked of an arrival (`Extends`) is no promise of its
 // type, since it is about the job, too, which the arrival does not hold.
 ghost use Rattle.std.specs.Prelude.{◌≡◌, ◌<◌};
 ghost use Rattle.model.specs.job.Layout.{constraint_count, hint_count};
 ghost use Rattle.nodes.specs.Meaning.{Clean, Carries};
 ghost use Rattle.table.specs.Slots.{Narrow};
 ghost use Rattle.held.specs.Held.{Formed, FitsSlot};
-ghost use Rattle.expansion.specs.Arrivals.{open_slot, Extends, Reaches, Makes, key_by, hints_by, newcomer, Joins, joined};
+ghost use Rattle.expansion.specs.Arrivals.{Extends, Reaches, Makes, key_by, hints_by, newcomer, Joins, joined};
 
 use job::Job;
 use model::NODE;
@@ -27,11 +27,7 @@ pub fn key_of(job: &Job, x: &Arrival) -> Key
     requires { Extends job.now x.now.from x.now.action }
     ensures { Reaches (key_by job.now x.now.from x.now.action) result }
 {
-    let key = Key {
-        cost: x.from.cost,
-        steps: x.from.steps,
-    };
-    key.extended(nodes::cost_of(job, x.action))
+    x.from.key.extended(nodes::cost_of(job, x.action))
 }
 
 // The hint residuals of an arrival at its node.
@@ -40,31 +36,6 @@ fn hints_of(work: &mut Work, x: &Arrival) -> [u64; 8]
     ensures { Carries (hint_count work.old.bytes) (hints_by work.old.bytes x.now.from x.now.action x.now.node) result × (work.new ≡ work.old) }
 {
     nodes::next_hints(work, x.from.hints, x.node, x.action)
-}
-
-// A slot of its parts, open.
-fn opened(
-    node: [u64; NODE],
-    hints: [u64; 8],
-    key: Key,
-    estimate: u64,
-    parent: usize,
-    action: u8,
-    goal: bool,
-) -> Slot
-    ensures { result ≡ open_slot node hints key estimate parent action goal }
-{
-    Slot {
-        node,
-        hints,
-        cost: key.cost,
-        steps: key.steps,
-        estimate,
-        parent,
-        action,
-        taken: false,
-        goal,
-    }
 }
 
 // The slot of a new node, which has an estimate.
@@ -77,7 +48,17 @@ pub fn fresh(work: &mut Work, x: &Arrival, estimate: u64) -> Slot
     let key = key_of(work.job(), x);
     let hints = hints_of(work, x);
     let goal = nodes::is_goal(work, x.node);
-    opened(x.node, hints, key, estimate, x.slot, x.action, goal)
+    let parent = x.slot;
+    Slot {
+        node: x.node,
+        hints,
+        key,
+        estimate,
+        parent,
+        action: x.action,
+        taken: false,
+        goal,
+    }
 }
 
 // The slot of a node that is reached by a lesser key: the node is the old one, so it is a goal if that was, and has its estimate.
@@ -88,15 +69,14 @@ pub fn replaced(work: &mut Work, x: &Arrival, key: Key, old: &Slot) -> Slot
         × (work.new ≡ work.old) }
 {
     let hints = hints_of(work, x);
-    opened(
-        old.node,
+    Slot {
         hints,
         key,
-        old.estimate,
-        x.slot,
-        x.action,
-        old.goal,
-    )
+        parent: x.slot,
+        action: x.action,
+        taken: false,
+        ..*old
+    }
 }
 
 // The slot of a node that is reached by an equal key: both ways' hints hold, and the way whose path comes first is kept.
@@ -106,31 +86,21 @@ pub fn merged(work: &mut Work, t: &Table, x: &Arrival, old: &Slot) -> Slot
         × (work.new ≡ work.old) }
 {
     let hints = progression::met(old.hints, hints_of(work, x));
-    let key = Key {
-        cost: old.cost,
-        steps: old.steps,
-    };
     let ours = u64::from(x.action);
     let theirs = u64::from(old.action);
     if paths::comes_first(t, x.slot, ours, old.parent, theirs) {
-        opened(
-            old.node,
+        Slot {
             hints,
-            key,
-            old.estimate,
-            x.slot,
-            x.action,
-            old.goal,
-        )
+            parent: x.slot,
+            action: x.action,
+            taken: false,
+            ..*old
+        }
     } else {
-        opened(
-            old.node,
+        Slot {
             hints,
-            key,
-            old.estimate,
-            old.parent,
-            old.action,
-            old.goal,
-        )
+            taken: false,
+            ..*old
+        }
     }
 }

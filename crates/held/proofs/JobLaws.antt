@@ -19,6 +19,10 @@ use Rattle.model.proofs.rights.Steps.{length-restricted, action_usable, applicab
 use Rattle.held.specs.Held.{sys, node_for, HasEstimate}
 
 module _ (bytes : List ℕ) (h : job_verdict bytes ≡ no_refusal) where
+  -- An accepted job has at most 64 actions.
+  pub few_actions : action_count bytes ≤ 64
+  few_actions = omega (arith, length-actions bytes, (accepted_proper bytes h).few_actions)
+
   -- An accepted job has at most 8 constraints.
   pub few_constraints : constraint_count bytes ≤ 8
   few_constraints = omega (arith, length-constraints bytes, (accepted_proper bytes h).few_constraints)

@@ -9,6 +9,7 @@ use Rattle.model.specs.search.Query.{Query}
 use Rattle.astar.specs.Records as search
 use Rattle.astar.specs.Records.{rank_in, find, least_open}
 use Rattle.astar.proofs.Finding.{least_some}
+use Rattle.task.specs.Meaning.{key_is}
 use Rattle.table.specs.declared.Slot.{Slot}
 use Rattle.table.specs.declared.lookup.Candidate.{Candidate}
 use Rattle.table.specs.Slots.{slot_in}
@@ -20,7 +21,7 @@ use Rattle.held.proofs.HeldLaws.{held_one, sound_at}
 
 -- an open slot and its rank, as a search has them
 abbrev pub rank_is : Candidate → Key
-rank_is c = key_of c.rank.cost c.rank.steps
+rank_is c = key_is c.rank
 
 abbrev pub open_is : Option Candidate → Option search.Open
 open_is (Some c) = Some (record { slot = c.slot; rank = rank_is c })
@@ -34,7 +35,7 @@ module _ (job : Query) where
   -- The rank of a sound slot's record is the slot's.
   pub held_rank : (s : Slot) → Sound job s → rank_in (sys job) (held_is job.bytes s) ≡ rank_at s
   unfolding held_is
-  held_rank s h = ap (λ (e : Option ℕ). key_of (s.cost + value_of e) s.steps) h.estimated.is
+  held_rank s h = ap (λ (e : Option ℕ). key_of (s.key.cost + value_of e) s.key.steps) h.estimated.is
 
   -- ---- the slot of a node
 

@@ -108,7 +108,7 @@ module _ (job : Query) {m0 : Node} (ss : List Slot) {P : Entry (sys job) → Typ
   pub next_fits : {places : ℕ} (i : ℕ) → i < length ss → (slot_in ss i).taken ≡ true
       → ((j : ℕ) × (j < length ss) × ((slot_in ss j).taken ≡ false)) ⊎ (length ss < places)
       → length ss ≤ places → places ≤ 65536
-      → (slot_in ss i).steps + 1 < 65536
+      → (slot_in ss i).key.steps + 1 < 65536
   unfolding held_is
   next_fits {places} i l y o h m =
       next_steps (sys job) inv {places = places} i (held_is job.bytes (slot_in ss i)) (held_at job.bytes ss i l) y (go o)

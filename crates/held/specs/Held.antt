@@ -7,6 +7,7 @@ use Rattle.model.specs.search.JobSystem.{node_estimate, system_of, is_goal}
 use Rattle.model.specs.search.Query.{Query, job_for}
 use Rattle.model.proofs.exploration.Each.{All}
 use Rattle.astar.specs.Records.{HeldOf}
+use Rattle.task.specs.Meaning.{key_is}
 use Rattle.table.specs.declared.Slot.{Slot}
 use Rattle.nodes.specs.Meaning.{node_is, Clean, hints_is, CleanHints}
 
@@ -27,7 +28,7 @@ module _ (job : List ℕ) where
   held_is s =
       record {
         node = node_for s.node;
-        key = record { cost = s.cost; steps = s.steps };
+        key = key_is s.key;
         hints = hints_is (hint_count job) s.hints;
         parent = s.parent;
         action = s.action;
@@ -44,7 +45,7 @@ module _ (job : List ℕ) where
     pub clean : Clean (constraint_count job) s.node
     pub clean_hints : CleanHints (hint_count job) s.hints
     pub marked : s.goal ≡ is_goal (job_of job) (node_for s.node)
-    pub summed : s.cost ≤ 65535 * s.steps
+    pub summed : s.key.cost ≤ 65535 * s.key.steps
 
 -- ---- by what is asked
 

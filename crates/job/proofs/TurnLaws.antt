@@ -5,8 +5,8 @@ use Rattle.model.specs.Refusal.{Refusal}
 use Rattle.model.specs.Verdict.{no_refusal, Verdict, or_else, in_turn}
 use Rattle.model.proofs.job.VerdictLaws.{in_turn_first}
 
--- The answer is the same refusal.
-pub passed_on : {T : Type 0} (u : Result T Refusal) {r : Refusal} → IsErrAnd u (λ y. y ≡ r) → u ≡ Err r
+-- The answer is the same error.
+pub passed_on : {T E : Type 0} (u : Result T E) {r : E} → IsErrAnd u (λ y. y ≡ r) → u ≡ Err r
 passed_on u h = let p = err_from_is_err_and u h in p.1 ∙ ap Err p.2
 
 -- A check that refuses decides, whatever comes after it.

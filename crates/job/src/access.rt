@@ -68,7 +68,7 @@ pub fn pair_count(bytes: &[u8]) -> usize
     requires { 4 ≤ length bytes.now }
     ensures { (result ≡ pair_count bytes.now) × (result < 513) }
 {
-    1 + usize::from(constraint_count(bytes)) + usize::from(hint_count(bytes))
+    1 + formula_count(bytes)
 }
 
 pub fn section_offset(bytes: &[u8], i: usize) -> usize
@@ -116,6 +116,8 @@ pub fn set_count(bytes: &[u8]) -> usize
 {
     if forbids(bytes) { ALL_SETS } else { PLAIN_SETS }
 }
+
+// What follows is read of accepted jobs alone. It stands here since each function asks only that its bytes are there, which `Job` shows of all at once.
 
 // The facts that are true at the start.
 pub fn start(bytes: &[u8]) -> u64

@@ -5,6 +5,7 @@ ghost use Rattle.model.specs.job.Decoding.{formula_verdict, formulas_verdict};
 ghost use Rattle.job.specs.Laid.{Laid};
 
 use super::access;
+use formula::Reader;
 use model::Verdict;
 
 // The formula in section i.
@@ -15,9 +16,12 @@ fn check_formula(bytes: &[u8], i: usize) -> Verdict
 {
     let offset = access::section_offset(bytes, i);
     let end = offset + access::section_length(bytes, i);
-    let facts = access::fact_count(bytes);
-    let actions = access::action_count(bytes);
-    formula::check(&bytes[offset..end], offset, facts, actions)
+    let reader = Reader {
+        bytes: &bytes[offset..end],
+        facts: access::fact_count(bytes),
+        actions: access::action_count(bytes),
+    };
+    reader.check(offset)
 }
 
 // The formulas in turn, constraints and then hints.

@@ -1,4 +1,6 @@
-// Reads jobs: refuses bytes that are no job, and gives what stands where in one that is accepted.
+// Reads jobs: refuses bytes that are no job, and gives what stands where in one that is accepted. `Laid` and `4 ≤ length` are clauses: what is known of the
+// bytes grows with each check, and a type for each stage would say no more. Checks in turn are a `for` with `?`: `try_for_each` would be lent the body as a
+// closure, whose contract would say again what the invariant says.
 #![tactic(auto)]
 
 ghost use Rattle.std.specs.Prelude.{◌≡◌};
@@ -7,7 +9,6 @@ ghost use Rattle.model.specs.job.Decoding.{job_verdict};
 use model::Verdict;
 
 pub mod access; // access.rt: what stands where
-pub mod checks; // checks.rt: one check
 pub mod head; // head.rt: refusal 1
 mod pairs; // pairs.rt: refusal 2
 mod task; // task.rt: refusal 3

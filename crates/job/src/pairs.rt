@@ -7,8 +7,8 @@ ghost use Rattle.model.specs.job.Layout.{pair_count};
 ghost use Rattle.model.specs.job.Decoding.{section_start, right_length, pair_verdict, pairs_verdict};
 ghost use Rattle.job.specs.Checks.{pair_fits};
 
-use super::{access, checks};
-use model::{Reason, Verdict};
+use super::access;
+use model::{Reason, Verdict, unless};
 
 // Where section i is to begin: after the pairs, or where the section before it ends.
 fn section_start(bytes: &[u8], i: usize) -> usize
@@ -16,9 +16,10 @@ fn section_start(bytes: &[u8], i: usize) -> usize
     ensures { result ≡ section_start bytes.now i }
 {
     if i == 0 {
-        return 4 + 4 * access::pair_count(bytes);
+        4 + 4 * access::pair_count(bytes)
+    } else {
+        access::section_offset(bytes, i - 1) + access::section_length(bytes, i - 1)
     }
-    access::section_offset(bytes, i - 1) + access::section_length(bytes, i - 1)
 }
 
 // Whether the task section may have n bytes: its actions have forbidden facts or not.
@@ -36,12 +37,10 @@ fn right_length(bytes: &[u8], i: usize, n: usize) -> bool
     ensures { result ≡ right_length bytes.now i n }
 {
     if i == 0 {
-        return task_length(bytes, n);
+        task_length(bytes, n)
+    } else {
+        formula::length_in_range(n)
     }
-    if n < 1 {
-        return false;
-    }
-    n <= 128
 }
 
 // Whether pair i and its section are whole, adjoin what is before, and have the right length.
@@ -49,26 +48,17 @@ fn pair_fits(bytes: &[u8], i: usize) -> bool
     requires { (4 ≤ length bytes.now) × (i < 513) }
     ensures { result ≡ pair_fits bytes.now i }
 {
-    if bytes.len() < 8 + 4 * i {
-        return false;
-    }
-    let offset = access::section_offset(bytes, i);
-    let n = access::section_length(bytes, i);
-    let due = section_start(bytes, i);
-    if offset != due {
-        return false;
-    }
-    if !right_length(bytes, i, n) {
-        return false;
-    }
-    offset + n <= bytes.len()
+    8 + 4 * i <= bytes.len()
+        && access::section_offset(bytes, i) == section_start(bytes, i)
+        && right_length(bytes, i, access::section_length(bytes, i))
+        && access::section_offset(bytes, i) + access::section_length(bytes, i) <= bytes.len()
 }
 
 fn check_pair(bytes: &[u8], i: usize) -> Verdict
     requires { (4 ≤ length bytes.now) × (i < 513) }
     ensures { result ≡ pair_verdict bytes.now i }
 {
-    checks::unless(pair_fits(bytes, i), Reason::BadPair, i)
+    unless(pair_fits(bytes, i), Reason::BadPair, i)
 }
 
 // The pairs in turn.
@@ -91,5 +81,5 @@ pub fn check_pairs(bytes: &[u8]) -> Verdict
     check_each_pair(bytes)?;
     let n = access::pair_count(bytes);
     let end = section_start(bytes, n);
-    checks::unless(end == bytes.len(), Reason::BadPair, n - 1)
+    unless(end == bytes.len(), Reason::BadPair, n - 1)
 }

@@ -1,5 +1,6 @@
 // What a search or a read-through is asked: a job, and which of its actions the caller may use.
-ghost use Rattle.std.specs.Prelude.{◌≡◌};
+ghost use Rattle.std.specs.Prelude.{◌≡◌, ◌<◌};
+ghost use Rattle.model.specs.Bits.{bit};
 
 use super::Job;
 use std::marker::Model;
@@ -39,5 +40,13 @@ impl<'a> Query<'a> {
         ensures { result ≡ self.now.usable }
     {
         self.usable
+    }
+
+    // Whether the caller may use action i.
+    pub fn may_use(&self, i: u8) -> bool
+        requires { i < 64 }
+        ensures { result ≡ bit self.now.usable i }
+    {
+        bits::bit_at(self.usable, i)
     }
 }

@@ -7,19 +7,16 @@ ghost use Rattle.model.specs.job.Layout.{set_bytes, action_count};
 ghost use Rattle.model.specs.job.Decoding.{set_verdict, action_verdict, task_verdict};
 ghost use Rattle.job.specs.Laid.{Laid};
 
+use super::access;
 use super::access::SET;
-use super::{access, checks};
-use model::{Reason, Verdict};
+use model::{Reason, Verdict, unless};
 
 // Whether x has no bit n or above.
 fn fits_in(x: u64, n: u8) -> bool
     requires { n ≤ 64 }
     ensures { result ≡ ltb x (2 ^ n) }
 {
-    if n == 64 {
-        return true;
-    }
-    x >> n == 0
+    n == 64 || x >> n == 0
 }
 
 // That the set at an offset has no fact that the job does not have.
@@ -28,7 +25,7 @@ fn check_set(bytes: &[u8], offset: usize) -> Verdict
     ensures { result ≡ set_verdict bytes.now offset }
 {
     let set = words::get::<SET>(bytes, offset);
-    checks::unless(
+    unless(
         fits_in(set, access::fact_count(bytes)),
         Reason::BadTask,
         offset,

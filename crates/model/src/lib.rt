@@ -1,13 +1,18 @@
 // The types and the sizes that the definitions in specs/ and the code of all crates share.
 #![tactic(auto)]
 
+ghost use Rattle.std.specs.Prelude.{◌≡◌};
+ghost use Rattle.model.specs.Reason.{number_of};
+ghost use Rattle.model.specs.Verdict.{unless};
+
 use std::fmt;
 use std::marker::Model;
 
 // A formula has at most this many carried parts.
 pub const MOST_PARTS: usize = 6;
 
-// The words of a node: a state and the residuals of eight constraints.
+// The words of a node: a state and the residuals of eight constraints. It is an array, since a slot begins with these words, and a lookup compares them as
+// they stand.
 pub const NODE: usize = 9;
 
 // A formula with no operand and no number.
@@ -42,6 +47,8 @@ pub enum Code {
     Action,
     One(Unary),
     Two(Binary),
+    // A byte that begins no formula. A variant and not an error: but for `formula::Reader` and `numbers::after`, those who read a code read formulas, where it
+    // is not met.
     Unknown,
 }
 
@@ -159,4 +166,16 @@ pub struct Planned {
 pub struct Passed {
     pub cost: u64,
     pub hints: u8,
+}
+
+// Refused with a reason and a place unless a test is true.
+#[tactic(auto, unfolding(crate::specs::Verdict::unless))]
+pub fn unless(ok: bool, reason: Reason, place: usize) -> Verdict
+    ensures { result ≡ unless ok (number_of reason) place }
+{
+    if ok {
+        Ok(())
+    } else {
+        Err(Refusal::new(reason, place))
+    }
 }

@@ -47,7 +47,8 @@ fn action_or_none(job: &Job, i: u8) -> Action
     }
 }
 
-// Eight actions in order, written out and not stored by a loop: so the compiler keeps them in registers and copies no array.
+// Eight actions in order, written out and not stored by a loop, so that the compiler builds no array in memory (docs/PERFORMANCE.md, "The lookup of
+// applicable actions").
 fn eight_from(job: &Job, first: u8) -> [Action; 8]
     requires { first + 8 ≤ 64 }
     ensures { map action_is result ≡ actions_from (job_of job.now) first 8 }
@@ -72,7 +73,7 @@ pub fn choices(q: &Query, node: [u64; NODE]) -> u64
     let job = q.job();
     let facts = node[0];
     let mut set = 0;
-    for eight in (0..(job.action_count() + 7) / 8).rev() {
+    for eight in (0..job.action_count().div_ceil(8)).rev() {
         set = task::applicable_set(eight_from(job, 8 * eight), facts) + 256 * set;
     }
     set & q.usable()
@@ -85,7 +86,7 @@ pub fn cost_of(job: &Job, i: u8) -> u64
     job.action_cost(usize::from(i))
 }
 
-// A state in front of residuals. Written out it is proved and compiled as it stands; so it is wherever an array has eight or nine numbers.
+// A state in front of residuals. Written out it is proved and compiled as it stands, as the other arrays of this file are.
 fn node_of(facts: u64, rs: [u64; 8]) -> [u64; NODE]
     ensures { result ≡ facts ∷ rs }
 {
@@ -154,6 +155,7 @@ pub fn is_goal(work: &mut Work, node: [u64; NODE]) -> bool
 }
 
 // The estimate of the cost that is left from a node by actions that the caller may use, which is that of its state; a node that has none is not reached.
+#[tactic(auto, unfolding(crate::specs::Meaning::node_is))]
 pub fn estimate_of(q: &Query, node: [u64; NODE]) -> Option<u64>
     ensures { Estimates (job_for q.now) (node_is (constraint_count q.now.bytes) node).state result }
 {

@@ -1,16 +1,18 @@
 -- Writing a rule back, once the verdict on it and the length of its normal form are known.
-use Rattle.std.proofs.Common.{Ok, Err, ◌≡◌, sym, ap, ◌∙◌, true, List, ◌++◌, ℕ, ◌+◌, ◌<◌, ◌≤◌, zero-add, arith, append_assoc, length, take, drop, le-leb}
-use Rattle.model.specs.Verdict.{no_refusal}
+use Rattle.std.proofs.Common.{Ok, Err, ◌≡◌, sym, ap, ◌∙◌, true, List, ◌++◌, ℕ, ◌+◌, ◌≤◌, zero-add, arith, append_assoc, length, take, drop, leb, le-leb}
+use Rattle.std.proofs.Common.{leb-true}
+use Rattle.model.specs.Verdict.{no_refusal, unless}
 use Rattle.std.proofs.Math.Path.{subst⁻¹}
 use Rattle.std.proofs.lemmas.List.Edits.{sets}
 use Rattle.std.proofs.Math.Seq.{sets-eq, length-sets, take-append_seam}
-use Rattle.std.proofs.lemmas.Bool.{lt-leb}
-use Rattle.model.specs.Refusal.{Refusal, refusal}
+use Rattle.std.proofs.lemmas.Bool.Decides.{nat_tests}
+use Rattle.model.specs.Refusal.{Refusal}
 use Rattle.model.specs.logic.Formula.{Formula}
 use Rattle.model.specs.logic.Parts.{size}
 use Rattle.model.specs.logic.Reading.{Parsed, formula, parsed, section}
 use Rattle.model.specs.calls.WriteBack.{write_end, rule_verdict, rewritten, into, written_back}
 use Rattle.model.proofs.logic.ReadingLaws.{section_from, parsed_size, parsed_wider}
+use Rattle.model.proofs.job.VerdictLaws.{unless_fine}
 use Rattle.model.proofs.calls.RuleLaws.{rule_fine}
 use Rattle.normal.specs.declared.Ends.{Ends}
 use Rattle.normal.specs.Writing.{Whole, bytes_of, Room, Stored}
@@ -23,13 +25,17 @@ written bytes l h = let g : 0 + length bytes ≤ length l = omega arith in rw (s
 
 module _ (bytes out : List ℕ) where
   -- 13: the buffer is too short
-  into_short : length out < length bytes → write_end (Err (refusal 13 (length bytes))) out ≡ into bytes out
-  unfolding into
-  into_short h = rw (lt-leb (length bytes) (length out) h, into)
+  into_short : {r : Refusal} → Err r ≡ unless (leb (length bytes) (length out)) 13 (length bytes) → write_end (Err r) out ≡ into bytes out
+  unfolding into unless
+  into_short e = grind (arith, nat_tests)
 
   into_done : length bytes ≤ length out → write_end (Ok (length bytes)) (bytes ++ drop (length bytes) out) ≡ into bytes out
   unfolding into
   into_done h = rw (le-leb (length bytes) (length out) h, into)
+
+-- the buffer is long enough
+pub fits : {n m : ℕ} → no_refusal ≡ unless (leb n m) 13 n → n ≤ m
+fits {n} {m} h = leb-true n m ((unless_fine (leb n m) 13 n).0 (sym h))
 
 -- the normal form of a rule stands at a text's start, n bytes
 pub record Aside (rule text : List ℕ) (n : ℕ) : Type 0 where
@@ -86,8 +92,8 @@ module _ (v a : ℕ) (rule : List ℕ) where
       unfolding written_back
       goes_on = rw (← e, written_back) (ap (λ (bytes : List ℕ). into bytes out) (sym (same_bytes e)))
 
-      pub too_short : length out < n → write_end (Err (refusal 13 n)) out ≡ written_back v a rule out
-      too_short h = rw g.number (into_short (bytes_of p true) out (omega (arith, g.number)) ∙ goes_on)
+      pub too_short : {r : Refusal} → Err r ≡ unless (leb n (length out)) 13 n → write_end (Err r) out ≡ written_back v a rule out
+      too_short h = into_short (bytes_of p true) out (rw g.number at h) ∙ goes_on
 
       pub done : n ≤ length out → write_end (Ok n) (take n text ++ drop n out) ≡ written_back v a rule out
       done h = rw (g.stands, g.number) (into_done (bytes_of p true) out (omega (arith, g.number)) ∙ goes_on)

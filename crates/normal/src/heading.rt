@@ -1,4 +1,5 @@
-// The bytes that stand before a node's operands in positive normal form. `plain` is the sign: whether the formula is written, or its negation.
+// The bytes that stand before a node's operands in positive normal form. `plain` is the sign: whether the formula is written, or its negation. The
+// bytes of codes are written out here, since a variant of `Code` holds its operator and so has no byte as discriminant; the other way is `Code::from`.
 ghost use Rattle.std.specs.Prelude.{◌≡◌, ◌+◌, ◌≤◌, length};
 ghost use Rattle.std.proofs.lemmas.List.Edits.{sets};
 ghost use Rattle.normal.specs.Heading.{bytes_in, head0, head1, head2, head_number, head_of, heading, sign};

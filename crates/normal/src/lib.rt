@@ -9,9 +9,11 @@ ghost use Rattle.model.specs.logic.Reading.{parsed};
 ghost use Rattle.model.specs.calls.WriteBack.{write_end, rule_verdict, written_back};
 ghost use Rattle.normal.specs.Writing.{Room, Stored};
 
-use model::{Code, Reason, Refusal, Verdict};
+use formula::Reader;
+use model::{Code, Reason, Refusal, Verdict, unless};
 
-// The position after what was read, and the position after what is written of it.
+// The position after what was read, and the position after what is written of it. The buffer `out` and the position `to` in it stand side by side, since
+// what is promised is about the bytes before and from the position on, and would have to name both as fields of a struct, too.
 #[derive(Clone, Copy, Debug, PartialEq, Eq)]
 pub struct Ends {
     pub next: usize,
@@ -80,30 +82,30 @@ pub fn write_negated(s: &[u8], at: usize, out: &mut [u8], to: usize) -> Ends
 }
 
 // Refusals 1 and 2, and then 4 and 5 counted from the rule's start.
-#[tactic(auto, using(std::proofs::lemmas::Bool::Decides::nat_tests), unfolding(model::specs::calls::WriteBack::rule_verdict))]
+#[tactic(auto, unfolding(model::specs::calls::WriteBack::rule_verdict))]
 fn check_rule(facts: u8, actions: u8, rule: &[u8]) -> Verdict
     ensures { result ≡ rule_verdict facts actions rule.now }
 {
-    if facts < 1 || 64 < facts || 64 < actions {
-        return Err(Refusal::new(Reason::BadHead, 0));
-    }
-    if rule.len() < 1 || 128 < rule.len() {
-        return Err(Refusal::new(Reason::BadPair, 0));
-    }
-    formula::check(rule, 0, facts, actions)
+    unless(formula::counts_in_range(facts, actions), Reason::BadHead, 0)?;
+    unless(formula::length_in_range(rule.len()), Reason::BadPair, 0)?;
+    let reader = Reader {
+        bytes: rule,
+        facts,
+        actions,
+    };
+    reader.check(0)
 }
 
 // Writes a rule back into a buffer, and gives how many bytes it has. They are written aside first, so that the buffer is untouched if it is
 // too short.
+#[tactic(auto, using(crate::proofs::WritingBack::fits))]
 pub fn write_back(facts: u8, actions: u8, rule: &[u8], out: &mut [u8]) -> Result<usize, Refusal>
     ensures { write_end result out.new ≡ written_back facts actions rule.now out.old }
 {
     check_rule(facts, actions, rule)?;
     let mut text = [0; MOST_BYTES];
     let needed = write(rule, 0, &mut text, 0).to;
-    if out.len() < needed {
-        return Err(Refusal::new(Reason::BufferTooShort, needed));
-    }
+    unless(needed <= out.len(), Reason::BufferTooShort, needed)?;
     out[..needed].copy_from_slice(&text[..needed]);
     Ok(needed)
 }

@@ -12,7 +12,7 @@ abbrev pub action_at : List Slot → ℕ → ℕ
 action_at ss i = (get_or ss i no_slot).action
 
 abbrev pub steps_at : List Slot → ℕ → ℕ
-steps_at ss i = (get_or ss i no_slot).steps
+steps_at ss i = (get_or ss i no_slot).key.steps
 
 -- the last n actions that lead to slot i; a slot's whole path has as many as the slot has steps
 unfoldable pub slot_path : List Slot → ℕ → ℕ → List ℕ

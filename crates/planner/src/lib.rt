@@ -10,6 +10,7 @@ ghost use Rattle.model.specs.calls.Numbers.{refusal_numbers, validate_numbers, S
 ghost use Rattle.search.specs.Given.{runs_out};
 
 use model::Refusal;
+use rights::Call;
 
 // Looks for the job's plan by the steps that the caller may use: 0 with its cost and its number of steps, or the number of a refusal with its place.
 #[unsafe(no_mangle)]
@@ -24,7 +25,8 @@ pub extern "C" fn dagzhimo_search(
     ensures { SearchAnswers runs_out (call job.now needs.now rights) table.old plan.old
         table.new plan.new (result ∷ out.new) }
 {
-    let told = search::numbers(search::search(job, needs, rights, table, plan));
+    let call = Call::new(job, needs, rights);
+    let told = search::numbers(search::search(&call, table, plan));
     *out = [told[1], told[2]];
     told[0]
 }
@@ -50,7 +52,7 @@ pub extern "C" fn dagzhimo_validate(
     ensures { result ∷ out.new
         ≡ validate_numbers (validated (call job.now needs.now rights) steps.now) }
 {
-    match validate::validate(job, needs, rights, steps) {
+    match validate::validate(&Call::new(job, needs, rights), steps) {
         Ok(passed) => {
             *out = [passed.cost, u64::from(passed.hints)];
             0

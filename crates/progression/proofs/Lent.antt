@@ -1,17 +1,18 @@
 -- The formula of a section that is lent on, as the evaluator takes it.
 use Rattle.std.proofs.Common.{◌≡◌, sym, ap, ◌∙◌, subst, ℕ, ◌≤◌, ◌<◌, true, not, List, length, arith}
 use Rattle.model.specs.Verdict.{no_refusal}
+use Rattle.model.specs.declared.Code.TheVariants.{Fact, Action}
 use Rattle.model.specs.logic.Parts.{most_parts, count, parts_of}
-use Rattle.model.specs.logic.Reading.{Parsed, formula, parsed}
+use Rattle.model.specs.logic.Reading.{formula, parsed}
 use Rattle.model.specs.logic.Names.{Names}
 use Rattle.model.specs.logic.Truth.{World}
-use Rattle.model.specs.logic.Progression.{residual, progressed, dead, settled, closing}
+use Rattle.model.specs.logic.Progression.{progressed, dead, settled, closing}
 use Rattle.model.specs.job.Layout.{pair_count, pair_length, section_bytes, formula_at}
 use Rattle.model.specs.job.Decoding.{job_verdict}
 use Rattle.model.proofs.logic.PartsLaws.{length-parts}
 use Rattle.model.proofs.logic.SettledLaws.{settled_stays, settled_closing}
 use Rattle.job.proofs.Accepted.{accepted_laid, accepted_formula}
-use Rattle.residual.specs.Residual.{Ready, residual_of, progressed_of, closing_of}
+use Rattle.residual.specs.Residual.{Ready, formula_of}
 use Rattle.progression.specs.Numbers.{After}
 use Rattle.progression.proofs.NumbersLaws.{NamesIn, read_named}
 
@@ -30,21 +31,12 @@ module _ (bytes : List ℕ) (h : job_verdict bytes ≡ no_refusal) (i : ℕ) (m 
         subst (Ready s) (sym read)
         (few_parts, sym (ap length e ∙ (accepted_formula bytes h i m l).size), (accepted_laid bytes h).few_bytes i m l)
 
-    -- What the evaluator answers is of the job's formula.
-    pub lent_residual : (w : World) → residual_of (parsed 64 64 s 0) w ≡ residual most_parts (formula_at bytes i) w
-    unfolding residual_of
-    lent_residual w = ap (λ (x : Parsed). residual_of x w) read
-
-    pub lent_progressed : (r : ℕ) (w : World) → progressed_of (parsed 64 64 s 0) r w ≡ progressed most_parts (parts_of (formula_at bytes i)) r w
-    unfolding progressed_of
-    lent_progressed r w = ap (λ (x : Parsed). progressed_of x r w) read
-
-    pub lent_closing : (r : ℕ) (w : World) → closing_of (parsed 64 64 s 0) r w ≡ closing (parts_of (formula_at bytes i)) r w
-    unfolding closing_of
-    lent_closing r w = ap (λ (x : Parsed). closing_of x r w) read
+    -- It takes it as the job's formula.
+    pub lent_formula : formula_of (parsed 64 64 s 0) ≡ formula_at bytes i
+    lent_formula = ap formula_of read
 
     -- The numbers after its codes have all that it names.
-    pub lent_named : (f a : ℕ) → After 0x03 s f → After 0x04 s a → Names f a (formula_at bytes i)
+    pub lent_named : (f a : ℕ) → After Fact s f → After Action s a → Names f a (formula_at bytes i)
     lent_named f a hf ha = subst (NamesIn f a) read (read_named f a s hf ha)
 
   -- A residual that is the same at every setting stays as it is.

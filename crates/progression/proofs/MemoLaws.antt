@@ -1,5 +1,6 @@
 -- What the memo answers, and what it keeps, for the formula in one section.
-use Rattle.std.proofs.Common.{◌≡◌, refl, sym, ap, ◌∙◌, ℕ, ◌+◌, ◌*◌, ◌-◌, ◌≤◌, ◌<◌, Bool, true, false, Option, Some, None, List, length, get_or, eqb, arith}
+use Rattle.std.proofs.Common.{◌≡◌, refl, sym, ap, ◌∙◌, subst, ℕ, ◌+◌, ◌*◌, ◌-◌, ◌≤◌, ◌<◌, Bool, true, false, Option, Some, None, List, length, get_or, eqb}
+use Rattle.std.proofs.Common.{arith}
 use Rattle.std.specs.Int.Bits.{bit_and}
 use mir.Val.{bool_byte}
 use Rattle.model.specs.Bits.{digit}
@@ -7,9 +8,10 @@ use Rattle.model.specs.logic.Names.{Names}
 use Rattle.model.specs.logic.Parts.{most_parts, parts_of}
 use Rattle.model.specs.logic.Progression.{progressed, closing}
 use Rattle.model.specs.job.Layout.{pair_count, formula_at}
+use Rattle.model.specs.search.Query.{Query}
 use Rattle.progression.specs.declared.entries.Question.{Question}
-use Rattle.progression.specs.declared.memo.World.{World}
-use Rattle.progression.specs.declared.memo.World.TheVariants.{After, Closing}
+use Rattle.residual.specs.declared.World.{World}
+use Rattle.residual.specs.declared.World.TheVariants.{After, Closing}
 use Rattle.progression.specs.Workspace.{answer, made_code, named_of, Kept, Recalls, Remembers}
 use Rattle.progression.proofs.Lent.{few_sections}
 use Rattle.progression.proofs.Questions.{named_code_lt, answer_next, answer_closing}
@@ -25,6 +27,10 @@ digit_is : (b : Bool) → eqb (digit b) 1 ≡ b
 unfolding digit
 digit_is true = refl
 digit_is false = refl
+
+-- what is kept for a query's job, by the view of the query
+pub kept_by : {q r : Query} {words : List ℕ} → q ≡ r → Kept q.bytes words → Kept r.bytes words
+kept_by {words = words} e k = subst (λ (p : Query). Kept p.bytes words) e k
 
 -- what is asked of the formula in section i
 abbrev pub Asked : List ℕ → ℕ → World → ℕ → ℕ → Question → Type 0

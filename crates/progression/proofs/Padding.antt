@@ -1,6 +1,6 @@
 -- Laws of the array of eight entries.
-use Rattle.std.proofs.Common.{◌≡◌, refl, sym, ap, ◌∙◌, ℕ, zero, suc, ◌+◌, ◌-◌, ◌≤◌, ◌<◌, List, [], ◌∷◌, ◌++◌, length, take, drop, get_or, set, replicate, arith}
-use Rattle.std.proofs.Common.{add-one, append_assoc, length-append}
+use Rattle.std.proofs.Common.{◌≡◌, refl, sym, ap, ap₂, ◌∙◌, ℕ, zero, suc, ◌-◌, ◌≤◌, ◌<◌, List, [], ◌∷◌, ◌++◌, length, take, get_or, set, replicate, arith}
+use Rattle.std.proofs.Common.{append_assoc, length-append}
 use Rattle.std.specs.Int.Bits.{bit_and}
 use Rattle.std.proofs.Math.ListN.{length-replicate, get_or-append}
 use Rattle.std.proofs.Math.Seq.{set_at, take-append_seam}
@@ -61,24 +61,13 @@ unfolding padded
 meet_all_padded a b e =
     rw (length-meet_all a b e, ← e) (meet_all_append a b _ _ e ∙ ap (λ (l : List ℕ). meet_all a b ++ l) (meet_all_zeros (8 - length a)))
 
--- ---- the conjunction, as a loop stores it in the first array
--- so many entries are those of the conjunction
-abbrev pub met_of : ℕ → List ℕ → List ℕ → List ℕ
-met_of n a b = meet_all (take n a) (take n b) ++ drop n a
-
-pub met_none : (a b : List ℕ) → a ≡ met_of 0 a b
+-- An array whose entries are those of the conjunction.
+pub met_is : (xs a b : List ℕ) → length xs ≡ length a → length a ≡ length b
+    → ((i : ℕ) → i < length a → get_or xs i 0 ≡ bit_and (get_or a i 0) (get_or b i 0)) → xs ≡ meet_all a b
 unfolding meet_all
-met_none a b = refl
-
--- one entry more
-met_next : (i : ℕ) (a b : List ℕ) → i < length a → i < length b
-    → set (met_of i a b) i (bit_and (get_or (met_of i a b) i 0) (get_or b i 0)) ≡ met_of (suc i) a b
-unfolding meet_all
-met_next i [] b l m = absurd (omega arith)
-met_next i (x ∷ a) [] l m = absurd (omega arith)
-met_next zero (x ∷ a) (y ∷ b) l m = refl
-met_next (suc i) (x ∷ a) (y ∷ b) l m = ap (λ (u : List ℕ). bit_and x y ∷ u) (met_next i a b (omega arith) (omega arith))
-
-pub met_more : (i : ℕ) (a b t : List ℕ) → i < length a → i < length b → t ≡ met_of i a b
-    → set t i (bit_and (get_or t i 0) (get_or b i 0)) ≡ met_of (i + 1) a b
-met_more i a b t l m e = rw (e, add-one) (met_next i a b l m)
+met_is [] [] b l m e = refl
+met_is [] (y ∷ a) b l m e = absurd (omega arith)
+met_is (x ∷ xs) [] b l m e = absurd (omega arith)
+met_is (x ∷ xs) (y ∷ a) [] l m e = absurd (omega arith)
+met_is (x ∷ xs) (y ∷ a) (z ∷ b) l m e =
+    ap₂ (λ (h : ℕ) (t : List ℕ). h ∷ t) (e 0 (omega arith)) (met_is xs a b (omega arith) (omega arith) (λ i h. e (suc i) (omega arith)))

@@ -1,5 +1,6 @@
 -- A question to the memo with the facts cut to those that the formula names has the answer of the whole world.
 use Rattle.std.proofs.Common.{◌≡◌, refl, sym, ap, ◌∙◌, ℕ, ◌<◌, Bool, true, false, Some, None, eqb, arith, lt-ltb, ne_eqb}
+use Rattle.std.specs.Bool.{then_some}
 use Rattle.std.specs.Int.Bits.{bit_and}
 use Rattle.std.proofs.Math.Bool.{and-true}
 use Rattle.model.specs.Bits.{bit, digit}
@@ -10,12 +11,12 @@ use Rattle.model.specs.logic.Truth.{is_made}
 use Rattle.model.specs.logic.Progression.{progressed, closing}
 use Rattle.model.proofs.bits.Bitwise.{bit_and_lem}
 use Rattle.model.proofs.logic.NamesLaws.{progressed_alike, closing_alike}
-use Rattle.progression.specs.declared.memo.World.TheVariants.{After, Closing}
+use Rattle.residual.specs.declared.World.TheVariants.{After, Closing}
 use Rattle.progression.specs.Workspace.{answer, made_by, made_code, named_of}
 
 -- the code of the world after an action, which the formula names or not
 abbrev code_named : Bool → ℕ → ℕ
-code_named b m = made_code (After (choose b (Some m) None))
+code_named b m = made_code (After (then_some b m))
 
 -- It fits into a key's last byte.
 pub named_code_lt : (a m : ℕ) → m < 64 → made_code (After (named_of a m)) < 256

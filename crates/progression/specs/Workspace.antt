@@ -4,6 +4,7 @@
 -- A key is 256 times the section, plus the action that was made, 255 for one that the formula does not name, 254 in the closing world. So no key
 -- is 0, and an entry of zeros is empty. Entries are used in pairs, so a workspace of under 40 words has none, and nothing is written to it.
 use Rattle.std.specs.Prelude.{◌≡◌, Bool, false, ℕ, ◌+◌, ◌*◌, ◌-◌, ◌/◌, ◌%◌, ◌≤◌, ◌<◌, Option, None, Some, List, eqb, leb, ltb, length, get_or, set, replicate}
+use Rattle.std.specs.Bool.{then_some}
 use Rattle.model.specs.Bits.{bit, digit}
 use Rattle.model.specs.logic.Formula.{Formula, choose}
 use Rattle.model.specs.logic.Names.{Names}
@@ -14,12 +15,12 @@ use Rattle.model.specs.job.Decoding.{job_verdict}
 use Rattle.model.specs.Verdict.{no_refusal}
 use Rattle.job.specs.Accepted.{formula_bytes}
 use Rattle.progression.specs.declared.entries.Question.{Question}
-use Rattle.progression.specs.declared.memo.World.{World}
-use Rattle.progression.specs.declared.memo.World.TheVariants.{After, Closing}
+use Rattle.residual.specs.declared.World.{World}
+use Rattle.residual.specs.declared.World.TheVariants.{After, Closing}
 
 -- the action of a key, if it is one
 abbrev pub made_by : ℕ → Option ℕ
-made_by a = choose (ltb a 64) (Some a) None
+made_by a = then_some (ltb a 64) a
 
 -- the number of a world in a key
 abbrev pub made_code : World → ℕ
@@ -29,7 +30,7 @@ made_code Closing = 254
 
 -- an action, if it is one of a set
 abbrev pub named_of : ℕ → ℕ → Option ℕ
-named_of actions a = choose (bit actions a) (Some a) None
+named_of actions a = then_some (bit actions a) a
 
 -- what a residual r of φ leaves in a state s in the world with code m, or whether it is true of the closing one
 abbrev pub answer : Formula → ℕ → ℕ → ℕ → ℕ

@@ -1,4 +1,5 @@
-// The entries of a memo: four words each, used in pairs from word 32 of a workspace on.
+// The entries of a memo: four words each, used in pairs from word 32 of a workspace on. Each function asks that there is room for two entries, or for its own:
+// `Work` has words of any length, and a type for words with room would be made in two methods and opened in the next call.
 ghost use Rattle.std.specs.Prelude.{◌≡◌, ◌+◌, ◌*◌, ◌≤◌, ◌<◌, length};
 ghost use Rattle.progression.specs.Workspace.{written, asks, Recalls, Remembers};
 
@@ -10,7 +11,8 @@ pub struct Question {
     pub facts: u64,
 }
 
-// A number that differs for most questions: halves times odd numbers of 32 bits, since a product with a whole word could overflow.
+// A number that differs for most questions: halves times odd numbers of 32 bits, so that no product overflows.
+// Std's `Hash` would need a hasher with a state, and this is five products.
 fn hash(q: Question) -> usize
     ensures { result < 65536 }
 {
@@ -24,7 +26,7 @@ fn hash(q: Question) -> usize
 }
 
 // The first of the two entries that a question may be kept in, of those that so many words have room for.
-pub fn entry_of(count: usize, q: Question) -> usize
+fn entry_of(count: usize, q: Question) -> usize
     requires { (40 ≤ count) × (count ≤ 65536) }
     ensures { 40 + 4 * result ≤ count }
 {
@@ -44,11 +46,12 @@ fn question_at(words: &[u64], at: usize) -> Question
     }
 }
 
-// What entry e or the one after it says to a question.
-pub fn recall(words: &[u64], e: usize, q: Question) -> Option<u64>
-    requires { 40 + 4 * e ≤ length words.now }
+// What one of a question's two entries says to it. They are written out: a loop over two places would need an invariant, and no line fewer.
+pub fn recall(words: &[u64], q: Question) -> Option<u64>
+    requires { (40 ≤ length words.now) × (length words.now ≤ 65536) }
     ensures { Recalls words.now q result }
 {
+    let e = entry_of(words.len(), q);
     let first = 32 + 4 * e;
     if question_at(words, first) == q {
         return Some(words[first + 3]);
@@ -70,11 +73,12 @@ fn put(words: &mut [u64], at: usize, q: Question, x: u64)
     words[at + 3] = x;
 }
 
-// Keeps the answer to a question in entry e. What was there goes to the entry after it, so that two questions which meet are both kept.
-pub fn remember(words: &mut [u64], e: usize, q: Question, x: u64)
-    requires { 40 + 4 * e ≤ length words.old }
+// Keeps the answer to a question in the first of its entries. What was there goes to the second, so that two questions which meet are both kept.
+pub fn remember(words: &mut [u64], q: Question, x: u64)
+    requires { (40 ≤ length words.old) × (length words.old ≤ 65536) }
     ensures { Remembers words.old q x words.new }
 {
+    let e = entry_of(words.len(), q);
     let at = 32 + 4 * e;
     let old = question_at(words, at);
     let answer = words[at + 3];

@@ -29,7 +29,7 @@ pub enum Group {
     Hints,
 }
 
-// The first section of neighbouring ones, and how many there are.
+// The first section of neighbouring ones, and how many there are: residuals are counted from the first on, so a range of sections would be no plainer.
 #[derive(Clone, Copy, Debug, PartialEq, Eq)]
 struct Sections {
     from: usize,
@@ -60,7 +60,7 @@ pub fn first(job: &Job, group: Group, state: u64) -> [u64; 8]
     let at = sections_of(job, group);
     let mut left = [0; 8];
     for i in 0..at.count {
-        left[i] = section::first(job, at.from + i, state);
+        left[i] = section::formula(job, at.from + i).first(state);
     }
     left
 }
@@ -74,7 +74,8 @@ pub fn pays(job: &Job, worlds: usize) -> bool
     bytes != 0 && 4096 / bytes <= worlds
 }
 
-// What the residuals of a group leave after a world.
+// What the residuals of a group leave after a world. A residual, a state and an action stay three values, here and below: the residual differs at each call,
+// and a struct would be built in one function and opened in the next.
 pub fn next(work: &mut Work, group: Group, rs: [u64; 8], state: u64, action: u8) -> [u64; 8]
     requires { action < 64 }
     ensures { (result ≡ padded (progressed_all (formulas_of group (job_of work.old.bytes)) (take (count_of group work.old.bytes) rs)
@@ -89,16 +90,15 @@ pub fn next(work: &mut Work, group: Group, rs: [u64; 8], state: u64, action: u8)
 }
 
 // Whether a residual of formula i, constraints before hints, is true of the closing world.
+// No memo is asked: each residual is asked about once, at the end of a read-through.
+#[tactic(auto, unfolding(model::specs::job::Layout::pair_count))]
 pub fn closes(job: &Job, i: usize, r: u64, state: u64) -> bool
     requires { i < constraint_count job.now + hint_count job.now }
     ensures { result ≡ closing (parts_of (formula_at job.now (1 + i))) r (record { state = state; made = None }) }
 {
-    // The call also says that the job is accepted: so a settled residual decides.
+    // The number of sections fits a word, so the section's number does.
     prove!(i < job.pair_count());
-    if section::is_settled(r) {
-        return r != 0;
-    }
-    section::closing(job, 1 + i, r, state)
+    section::closes(job, 1 + i, r, state)
 }
 
 // Whether the residuals of all constraints are true of the closing world.
@@ -106,6 +106,7 @@ pub fn constraints_close(work: &mut Work, rs: [u64; 8], state: u64) -> bool
     ensures { (result ≡ closing_all (job_of work.old.bytes).constraints (take (constraint_count work.old.bytes) rs)
         (record { state = state; made = None })) × (work.new ≡ work.old) }
 {
+    // A closure that `all` is lent would have to say of the work what `closing` says, so a loop is plainer.
     for i in 0..work.job().constraint_count() {
         if !work.closing(1 + i, rs[i], state) {
             return false;
@@ -126,9 +127,5 @@ pub fn some_dead(rs: [u64; 8], count: usize) -> bool
 pub fn met(a: [u64; 8], b: [u64; 8]) -> [u64; 8]
     ensures { result ≡ meet_all a b }
 {
-    let mut both = a;
-    for i in 0..8 {
-        both[i] &= b[i];
-    }
-    both
+    std::array::from_fn(|i| a[i] & b[i])
 }

@@ -1,16 +1,16 @@
 // The numbers that stand after codes in the bytes of a formula.
-ghost use Rattle.std.specs.Prelude.{◌<◌};
 ghost use Rattle.progression.specs.Numbers.{After};
 
-// The numbers right after the bytes of one value, as a set. A number may look like a code: then the set has more than a formula names.
-pub fn after(s: &[u8], code: u8) -> u64
+use model::Code;
+
+// The numbers right after the bytes of a code, as a set. A number may look like a code: then the set has more than a formula names.
+pub fn after(s: &[u8], code: Code) -> u64
     ensures { After code s.now result }
 {
     let mut found = 0;
-    for i in 1..s.len() {
-        let n = s[i] % 64;
-        if s[i - 1] == code {
-            found |= 1 << n;
+    for pair in s.windows(2) {
+        if Code::from(pair[0]) == code {
+            found |= 1 << (pair[1] % 64);
         }
     }
     found

@@ -1,12 +1,14 @@
-// The formula in section i of an accepted job: the section is lent on to the evaluator.
+// The formula in section i of an accepted job. The range of a section's number is asked, since a type for it would have to hold its job.
 ghost use Rattle.std.specs.Prelude.{◌≡◌, ◌≤◌, ◌<◌};
 ghost use Rattle.model.specs.logic.Parts.{most_parts, parts_of};
 ghost use Rattle.model.specs.logic.Names.{Names};
-ghost use Rattle.model.specs.logic.Progression.{settled, residual, progressed, closing};
+ghost use Rattle.model.specs.logic.Progression.{settled, closing};
 ghost use Rattle.model.specs.job.Layout.{pair_count, formula_at};
 
 use super::numbers;
 use job::Job;
+use model::Code;
+use residual::Formula;
 
 // Whether a residual is the same at every setting of its carried parts: such a one stays as it is.
 pub fn is_settled(r: u64) -> bool
@@ -15,28 +17,25 @@ pub fn is_settled(r: u64) -> bool
     r == 0 || r == u64::MAX
 }
 
-// What the formula leaves after the first world.
-pub fn first(job: &Job, i: usize, state: u64) -> u64
+// The formula, as the evaluator takes it.
+pub fn formula<'a>(job: &Job<'a>, i: usize) -> Formula<'a>
     requires { (1 ≤ i) × (i < pair_count job.now) }
-    ensures { result ≡ residual most_parts (formula_at job.now i) (record { state = state; made = None }) }
+    ensures { result ≡ formula_at job.now i }
 {
-    residual::first(job.section(i), state)
+    Formula::new(job.section(i))
 }
 
-// What a residual of the formula leaves after a world.
-pub fn next(job: &Job, i: usize, r: u64, state: u64, action: Option<u8>) -> u64
-    requires { (1 ≤ i) × (i < pair_count job.now) }
-    ensures { result ≡ progressed most_parts (parts_of (formula_at job.now i)) r (record { state = state; made = action }) }
-{
-    residual::next(job.section(i), r, state, action)
-}
-
-// Whether a residual of the formula is true of the closing world.
-pub fn closing(job: &Job, i: usize, r: u64, state: u64) -> bool
+// Whether a residual is true of the closing world. A settled one decides without a walk.
+pub fn closes(job: &Job, i: usize, r: u64, state: u64) -> bool
     requires { (1 ≤ i) × (i < pair_count job.now) }
     ensures { result ≡ closing (parts_of (formula_at job.now i)) r (record { state = state; made = None }) }
 {
-    residual::closing(job.section(i), r, state)
+    // The call also says that the job is accepted: so a settled residual decides.
+    prove!(i < job.pair_count());
+    if is_settled(r) {
+        return r != 0;
+    }
+    formula(job, i).closing(r, state)
 }
 
 // The facts and the actions that a formula names, as sets.
@@ -53,7 +52,7 @@ pub fn names(job: &Job, i: usize) -> Named
 {
     let s = job.section(i);
     Named {
-        facts: numbers::after(s, 3),
-        actions: numbers::after(s, 4),
+        facts: numbers::after(s, Code::Fact),
+        actions: numbers::after(s, Code::Action),
     }
 }

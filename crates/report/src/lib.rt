@@ -31,7 +31,8 @@ pub fn validated(to: &impl Print, end: Result<Passed, Refusal>) -> io::Result<()
     }
 }
 
-// What writing a rule back gave: `written 6:` and the bytes in hexadecimal, each after a space, or a refusal.
+// What writing a rule back gave: `written 6:` and the bytes in hexadecimal, each after a space, or a refusal. The count and the buffer come as
+// `normal::write_back` gives them.
 pub fn rewritten(to: &impl Print, end: Result<usize, Refusal>, buffer: &[u8]) -> io::Result<()> {
     let n = match end {
         Ok(n) => n,

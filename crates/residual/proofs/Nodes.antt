@@ -1,6 +1,5 @@
 -- A formula's truth table is made of its operands' tables.
-use Rattle.std.proofs.Common.{◌≡◌, refl, ap, ap₂, ℕ, suc, ◌+◌, ◌<◌, Bool, true, false, not, ◌&&◌, ◌||◌, Option, None, Some, eqb}
-use Rattle.std.specs.Option.{option_eq}
+use Rattle.std.proofs.Common.{◌≡◌, refl, ap, ap₂, ℕ, suc, ◌+◌, ◌<◌, Bool, true, false, not, ◌&&◌, ◌||◌, None, Some}
 use denote.Enum.Bare.{sameb}
 use Rattle.model.specs.contracts.Unary.{the_type}
 use Rattle.model.specs.declared.Unary.{Unary}
@@ -12,8 +11,11 @@ use Rattle.model.specs.logic.Parts.{size, count, temporal, temporal1, temporal2}
 use Rattle.model.specs.logic.Truth.{is_made}
 use Rattle.model.proofs.bits.Bits.{bit_of_bits, of_bits_cong}
 use Rattle.formula.specs.Extent.{is_next}
+use Rattle.residual.specs.contracts.WorldPartialEq.TheImpl as world
+use Rattle.residual.specs.declared.World.{World}
+use Rattle.residual.specs.declared.World.TheVariants.{After, Closing}
 use Rattle.residual.specs.Facts.{Valuation}
-use Rattle.residual.specs.Node.{truth, truth1, truth2, of_nothing1, of_nothing2, ahead, after, table_of, ahead_table, table1, table2}
+use Rattle.residual.specs.Node.{made_in, truth, truth1, truth2, of_nothing1, of_nothing2, ahead, after, table_of, ahead_table, table1, table2}
 use Rattle.residual.specs.Walk.{starts}
 
 -- ---- what the code compares
@@ -25,11 +27,12 @@ compared_next Next = refl
 compared_next Eventually = refl
 compared_next Always = refl
 
--- the action that was made, if one was, with an action
-pub compared_action : (made : Option ℕ) (a : ℕ) → option_eq eqb made (Some a) ≡ is_made made a
+-- the world with one after an action
+pub compared_action : (w : World) (a : ℕ) {r : Bool} → r ≡ world.ghosts.eq w (After (Some a)) → r ≡ is_made (made_in w) a
 unfolding is_made
-compared_action None a = refl
-compared_action (Some b) a = refl
+compared_action (After None) a e = e
+compared_action (After (Some b)) a e = e
+compared_action Closing a e = e
 
 module _ (closing : Bool) (v : Valuation) where
   -- ---- the bits of a table

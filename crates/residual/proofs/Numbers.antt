@@ -1,5 +1,6 @@
 -- The numbers of the carried parts on the walk: they rise, and come to the count of the parts.
-use Rattle.std.proofs.Common.{◌≡◌, refl, sym, ◌∙◌, ℕ, suc, ◌+◌, ◌<◌, ◌≤◌, Bool, true, false, ◌||◌, List, add-zero, arith, length, get_or, ltb, ltb-true}
+use Rattle.std.proofs.Common.{◌≡◌, refl, sym, ◌∙◌, ℕ, suc, ◌+◌, ◌<◌, ◌≤◌, Bool, true, false, ◌||◌, List, add-zero, arith, length, get_or, ltb, ltb-true, IfSome}
+use Rattle.std.specs.Bool.{then_some}
 use Rattle.std.proofs.Math.Decide.{dec_lt}
 use Rattle.model.specs.declared.Unary.{Unary}
 use Rattle.model.specs.declared.Unary.TheVariants.{Not, Next, Eventually, Always}
@@ -156,11 +157,12 @@ module _ (v a : ℕ) (s : List ℕ) (under : Bool) (i : ℕ) where
   inner_le Unknown rec g at h = absurd h
 
 -- a formula that is a part has the number of an unknown, if those inside have
-pub part_below : (under carried : Bool) (i : ℕ) → after carried (starts under carried i) ≤ most_parts → under || carried ≡ true → i < most_parts
-part_below true true i h e = omega arith
-part_below true false i h e = omega arith
-part_below false true i h e = omega arith
-part_below false false i h e = let z : ◌≡◌ {A = ℕ} 0 1 = cc in omega arith
+pub part_below : (under carried : Bool) (i : ℕ) → after carried (starts under carried i) ≤ most_parts
+    → IfSome (then_some (under || carried) i) (λ k. k < most_parts)
+part_below true true i h = omega arith
+part_below true false i h = omega arith
+part_below false true i h = omega arith
+part_below false false i h = tt
 
 -- the numbers from the start of a formula on are those of unknowns, if those inside are
 pub first_le : (under carried : Bool) (i : ℕ) → after carried (starts under carried i) ≤ most_parts → i ≤ most_parts

@@ -13,9 +13,9 @@ use Rattle.model.proofs.bits.Bitwise.{bit_or_assoc}
 use Rattle.model.proofs.logic.Codes.{code0, code1, code2}
 use Rattle.model.proofs.logic.ReadingLaws.{Stands, parsed_stands, parsed_size}
 use Rattle.residual.specs.declared.facts.Reading.{Reading}
-use Rattle.residual.specs.Facts.{truth_bit, fact_truths, truths_read}
+use Rattle.residual.specs.Facts.{truth_bit, fact_truths}
 use Rattle.residual.specs.Pass.{HasNumber, Legible, read_by, read_code}
-use Rattle.residual.specs.Residual.{Ready}
+use Rattle.residual.specs.Residual.{Ready, formula_of}
 
 -- a bit of 64 that is shifted to another place stays one
 pub shifted_digit : (x k : ℕ) → k < 64 → (x % 2 * 2 ^ k) % 2 ^ 64 ≡ digit (eqb (x % 2) 1) * 2 ^ k
@@ -129,8 +129,7 @@ module _ (s : List ℕ) (state : ℕ) where
 
   -- ---- the pass: its start, a code that it can read, one code more, its end
 
-  pub starts_passed : (p : Parsed) → parsed 64 64 s 0 ≡ p → Ready s p → Passed (truths_read p state) (record { truths = 0; at = 0 })
-  unfolding truths_read
+  pub starts_passed : (p : Parsed) → parsed 64 64 s 0 ≡ p → Ready s p → Passed (fact_truths (formula_of p) 0 state) (record { truths = 0; at = 0 })
   starts_passed (formula φ n) e h = record {
     ahead = φ ∷ [];
     stand = (parsed_stands 64 64 s 0 φ n e, sym (parsed_size 64 64 s 0 φ n e) ∙ h.1);

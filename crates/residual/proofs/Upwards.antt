@@ -1,5 +1,6 @@
 -- The table of part i has only the unknowns i and above: the tables that the walk leaves can be put for the unknowns one after the other.
 use Rattle.std.proofs.Common.{◌≡◌, refl, sym, ap, ap₂, ◌∙◌, ℕ, zero, suc, ◌+◌, ◌<◌, ◌≤◌, Bool, true, false, ◌||◌, List, [], ◌∷◌, arith, get_or, set, replicate}
+use Rattle.std.specs.Bool.{then_some}
 use Rattle.model.specs.Bits.{bit}
 use Rattle.model.specs.logic.Formula.{Formula, constant, fact, action, unary, binary}
 use Rattle.model.specs.logic.Parts.{most_parts, size, count, temporal1, temporal2}
@@ -58,7 +59,7 @@ abbrev AllFrom : List ℕ → Type 0
 AllFrom t = (i : ℕ) → From i (get_or t i 0)
 
 -- AllFrom stays true where a part's table is put in its place
-put_every : (part : Bool) (n x : ℕ) (t : List ℕ) → From n x → AllFrom t → AllFrom (put part n x t)
+put_every : (part : Bool) (n x : ℕ) (t : List ℕ) → From n x → AllFrom t → AllFrom (put (then_some part n) x t)
 put_every true n x t p h = set_every From t n x p h
 put_every false n x t p h = h
 

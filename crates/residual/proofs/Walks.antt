@@ -1,6 +1,7 @@
 -- The walk goes by one node: what is answered for a formula, and the tables left, by what is answered for its operands.
 use Rattle.std.proofs.Common.{◌≡◌, refl, ap, ℕ, suc, ◌+◌, ◌<◌, Bool, false, ◌||◌, List, add-one}
 use Rattle.std.proofs.Math.Bool.{or-false}
+use Rattle.std.specs.Bool.{then_some}
 use Rattle.model.specs.declared.Constant.{Constant}
 use Rattle.model.specs.declared.Unary.{Unary}
 use Rattle.model.specs.declared.Binary.{Binary}
@@ -37,7 +38,7 @@ module _ (closing : Bool) (v : Valuation) where
 
     -- ---- no operand: the answer of a formula whose table is the constant one of b
     abbrev Leaves : Bool → Formula → ℕ → Type 0
-    Leaves b φ n = Answered (formula φ n) (leaf b n (starts under false i)) (put under i (everywhere most_parts b) t)
+    Leaves b φ n = Answered (formula φ n) (leaf b n (starts under false i)) (put (then_some under i) (everywhere most_parts b) t)
 
     pub constant_answers : (c : Constant) (n : ℕ) → Leaves (truth0 closing c) (constant c) n
     unfolding evaluated filled_by filled behind everywhere table_of truth
@@ -64,11 +65,11 @@ module _ (closing : Bool) (v : Valuation) where
 
       pub one_answers : (p : Parsed) → Few (then (unary o) p) under i
           → Answered (then (unary o) p) (value1 p)
-          (put (under || temporal1 o) i (value1 p).table (filled_by closing v p (at + 1) (is_next o) inner1 t))
+          (put (then_some (under || temporal1 o) i) (value1 p).table (filled_by closing v p (at + 1) (is_next o) inner1 t))
       unfolding evaluated filled_by filled behind then
       one_answers (formula φ n) h = rw add-one (
         λ j. record { table = table_one closing v o φ at own1 j; next = n; parts = behind φ (is_next o) inner1 },
-        ap (λ (x : ℕ). put (under || temporal1 o) i x (filled closing v φ (suc at) (is_next o) inner1 t)) (table_one closing v o φ at own1),
+        ap (λ (x : ℕ). put (then_some (under || temporal1 o) i) x (filled closing v φ (suc at) (is_next o) inner1 t)) (table_one closing v o φ at own1),
       )
       one_answers (wrong p) h = absurd h
 
@@ -92,7 +93,7 @@ module _ (closing : Bool) (v : Valuation) where
       value2 x = two closing o own2 x (evaluated closing v (parsed f a s x.next) x.next false x.parts)
 
       abbrev tables2 : Value → List ℕ → List ℕ
-      tables2 x l = put (under || temporal2 o) i (value2 x).table (filled_by closing v (parsed f a s x.next) x.next false x.parts l)
+      tables2 x l = put (then_some (under || temporal2 o) i) (value2 x).table (filled_by closing v (parsed f a s x.next) x.next false x.parts l)
 
       -- the first operand ends as many bytes further on as it has
       abbrev Ends : Parsed → Type 0
@@ -108,11 +109,11 @@ module _ (closing : Bool) (v : Valuation) where
           go : (q : Parsed) → Few (then (binary o φ) q) under i
               → (let x = two closing o own2 (first2 (formula φ m)) (evaluated closing v q m false (behind φ false inner2)) in
               Answered (then (binary o φ) q) x
-              (put (under || temporal2 o) i x.table
+              (put (then_some (under || temporal2 o) i) x.table
               (filled_by closing v q m false (behind φ false inner2) (filled closing v φ (at + 1) false inner2 t))))
           go (formula ψ n) h = rw (e φ m refl, add-one) (
             λ j. record { table = table j; next = n; parts = behind ψ false (behind φ false inner2) },
-            ap (λ (x : ℕ). put (under || temporal2 o) i x
+            ap (λ (x : ℕ). put (then_some (under || temporal2 o) i) x
                 (filled closing v ψ (suc at + size φ) false (behind φ false inner2) (filled closing v φ (suc at) false inner2 t))) table,
           )
             where

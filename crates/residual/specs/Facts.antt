@@ -4,7 +4,6 @@ use Rattle.std.specs.Prelude.{ℕ, suc, ◌+◌, ◌*◌, ◌/◌, ◌^◌, Opti
 use Rattle.std.specs.Int.Bits.{bit_or}
 use Rattle.model.specs.Bits.{bit, digit}
 use Rattle.model.specs.logic.Formula.{Formula, constant, fact, action, unary, binary}
-use Rattle.model.specs.logic.Reading.{Parsed, formula, wrong}
 use Rattle.model.specs.logic.Parts.{size}
 use Rattle.model.specs.logic.Truth.{World}
 
@@ -22,12 +21,6 @@ fact_truths (action a) at s = 0
 fact_truths (unary o φ) at s = fact_truths φ (suc at) s
 fact_truths (binary o φ ψ) at s = bit_or (fact_truths φ (suc at) s) (fact_truths ψ (suc at + size φ) s)
 
--- the same of what was read from a section's start on
-unfoldable pub truths_read : Parsed → ℕ → ℕ
-unfolding fact_truths
-truths_read (formula φ n) s = fact_truths φ 0 s
-truths_read (wrong p) s = 0
-
 -- "these truths and no state": what is known of a world where a formula is evaluated
 pub record Valuation : Type 0 where
   pub truths : ℕ
@@ -36,7 +29,3 @@ pub record Valuation : Type 0 where
 -- what is known after the facts of a formula were read in a world
 abbrev pub read_in : World → Formula → Valuation
 read_in w φ = record { truths = fact_truths φ 0 w.state; made = w.made }
-
--- the same of what was read from a section's start on
-abbrev pub known_in : World → Parsed → Valuation
-known_in w p = record { truths = truths_read p w.state; made = w.made }

@@ -3,4 +3,5 @@ pub mod Pass
 pub mod Node
 pub mod Walk
 pub mod Residual
+pub mod Stored
 pub mod SameRemainder

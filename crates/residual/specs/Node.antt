@@ -1,6 +1,6 @@
 -- The truth of a formula in one world by that of its operands, and its truth table by theirs. `closing` says that the world is the closing
 -- one: no world is ahead of it. Before it, the truth in the worlds ahead is an unknown, one for each carried part.
-use Rattle.std.specs.Prelude.{ℕ, suc, ◌+◌, Bool, true, false, not, ◌&&◌, ◌||◌}
+use Rattle.std.specs.Prelude.{ℕ, suc, ◌+◌, Bool, true, false, not, ◌&&◌, ◌||◌, Option, None}
 use Rattle.model.specs.declared.Constant.{Constant}
 use Rattle.model.specs.declared.Constant.TheVariants.{False, True, Last}
 use Rattle.model.specs.declared.Unary.{Unary}
@@ -11,11 +11,22 @@ use Rattle.model.specs.Bits.{bit, of_bits}
 use Rattle.model.specs.logic.Formula.{Formula, constant, fact, action, unary, binary}
 use Rattle.model.specs.logic.Parts.{size, count, temporal1, temporal2}
 use Rattle.model.specs.logic.Truth.{is_made}
+use Rattle.residual.specs.declared.World.{World}
+use Rattle.residual.specs.declared.World.TheVariants.{After, Closing}
 use Rattle.residual.specs.declared.Moment.{Moment}
 use Rattle.residual.specs.Facts.{Valuation, truth_bit}
 
+abbrev pub is_closing : World → Bool
+is_closing (After made) = false
+is_closing Closing = true
+
+-- in the closing world no action is made
+abbrev pub made_in : World → Option ℕ
+made_in (After made) = made
+made_in Closing = None
+
 abbrev pub valuation_of : Moment → Valuation
-valuation_of m = record { truths = m.truths; made = m.action }
+valuation_of m = record { truths = m.truths; made = made_in m.world }
 
 -- ---- by the operands' truth
 abbrev pub truth0 : Bool → Constant → Bool

@@ -1,34 +1,31 @@
--- What the crate's three functions answer of a section's formula.
-use Rattle.std.specs.Prelude.{◌≡◌, ℕ, ◌≤◌, Bool, false, List, length, replicate}
+-- The formula that a section's bytes stand for, and its tables in a world.
+use Rattle.std.specs.Prelude.{◌≡◌, ℕ, ◌≤◌, false, List, length, replicate}
+use Rattle.model.specs.declared.Constant.TheVariants.{False}
+use Rattle.model.specs.logic.Formula.{Formula, constant}
 use Rattle.model.specs.logic.Reading.{Parsed, formula, wrong}
-use Rattle.model.specs.logic.Parts.{most_bytes, most_parts, count, parts_of}
-use Rattle.model.specs.logic.Truth.{World}
-use Rattle.model.specs.logic.Progression.{residual, progressed, closing}
+use Rattle.model.specs.logic.Parts.{most_bytes, most_parts, count}
+use Rattle.model.specs.logic.Truth.{World as Model}
+use Rattle.residual.specs.declared.World.{World}
 use Rattle.residual.specs.declared.Tables.{Tables}
-use Rattle.residual.specs.Facts.{known_in}
-use Rattle.residual.specs.Walk.{evaluated, filled_by}
+use Rattle.residual.specs.Facts.{read_in}
+use Rattle.residual.specs.Node.{is_closing, made_in, table_of}
+use Rattle.residual.specs.Walk.{filled}
 
 -- a formula was read that fills the section's bytes s, and it has no more carried parts and no more bytes than it may
 abbrev pub Ready : List ℕ → Parsed → Type 0
 Ready s (formula φ n) = (count φ ≤ most_parts) × (n ≡ length s) × (n ≤ most_bytes)
 Ready s (wrong p) = ⊥
 
-unfoldable pub residual_of : Parsed → World → ℕ
-unfolding residual
-residual_of (formula φ n) w = residual most_parts φ w
-residual_of (wrong p) w = 0
+-- the formula that was read, if one was
+abbrev pub formula_of : Parsed → Formula
+formula_of (formula φ n) = φ
+formula_of (wrong p) = constant False
 
-unfoldable pub progressed_of : Parsed → ℕ → World → ℕ
-unfolding progressed parts_of
-progressed_of (formula φ n) r w = progressed most_parts (parts_of φ) r w
-progressed_of (wrong p) r w = 0
-
-unfoldable pub closing_of : Parsed → ℕ → World → Bool
-unfolding closing parts_of
-closing_of (formula φ n) r w = closing (parts_of φ) r w
-closing_of (wrong p) r w = false
+-- the model's world in a state
+abbrev pub world_in : ℕ → World → Model
+world_in state world = record { state = state; made = made_in world }
 
 -- the formula's own table in a world, and the tables of its carried parts
-pub record IsTables (p : Parsed) (w : World) (closing : Bool) (t : Tables) : Type 0 where
-  pub own : t.own ≡ (evaluated closing (known_in w p) p 0 false 0).table
-  pub parts : t.parts ≡ filled_by closing (known_in w p) p 0 false 0 (replicate most_parts 0)
+pub record IsTables (φ : Formula) (state : ℕ) (world : World) (t : Tables) : Type 0 where
+  pub own : t.own ≡ table_of (is_closing world) (read_in (world_in state world) φ) φ 0 0
+  pub parts : t.parts ≡ filled (is_closing world) (read_in (world_in state world) φ) φ 0 false 0 (replicate most_parts 0)

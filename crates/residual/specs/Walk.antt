@@ -1,6 +1,7 @@
 -- The walk over a formula's bytes: the numbers of its carried parts, and the tables that it leaves. `under` says that a formula is the operand
 -- of a next, n is the number of the next carried part.
-use Rattle.std.specs.Prelude.{ℕ, suc, ◌+◌, ◌≤◌, Bool, true, false, ◌||◌, List, set}
+use Rattle.std.specs.Prelude.{ℕ, suc, ◌+◌, ◌≤◌, Bool, true, false, ◌||◌, Option, None, Some, List, set}
+use Rattle.std.specs.Bool.{then_some}
 use Rattle.model.specs.declared.Unary.{Unary}
 use Rattle.model.specs.declared.Binary.{Binary}
 use Rattle.model.specs.logic.Formula.{Formula, constant, fact, action, unary, binary}
@@ -21,11 +22,13 @@ starts true false n = suc n
 
 -- how a formula counts among the parts, where n is the next number
 abbrev pub numbers_of : Bool → Bool → ℕ → Numbering
-numbers_of under carried n = let own = starts under carried n in record { part = under || carried; own = own; inner = after carried own }
+numbers_of under carried n =
+    let own = starts under carried n in record { part = then_some (under || carried) n; own = own; inner = after carried own }
 
-abbrev pub put : Bool → ℕ → ℕ → List ℕ → List ℕ
-put true n x t = set t n x
-put false n x t = t
+-- a table put in its place, if it is that of a part
+abbrev pub put : Option ℕ → ℕ → List ℕ → List ℕ
+put (Some n) x t = set t n x
+put None x t = t
 
 -- the number of the first part after a formula
 unfoldable pub behind : Formula → Bool → ℕ → ℕ
@@ -39,15 +42,15 @@ behind (binary o φ ψ) under n = behind ψ false (behind φ false (after (tempo
 module _ (closing : Bool) (v : Valuation) where
   unfoldable pub filled : Formula → ℕ → Bool → ℕ → List ℕ → List ℕ
   unfolding size behind table_of
-  filled (constant c) at under n t = put (under || false) n (table_of closing v (constant c) at (starts under false n)) t
-  filled (fact i) at under n t = put (under || false) n (table_of closing v (fact i) at (starts under false n)) t
-  filled (action a) at under n t = put (under || false) n (table_of closing v (action a) at (starts under false n)) t
+  filled (constant c) at under n t = put (then_some (under || false) n) (table_of closing v (constant c) at (starts under false n)) t
+  filled (fact i) at under n t = put (then_some (under || false) n) (table_of closing v (fact i) at (starts under false n)) t
+  filled (action a) at under n t = put (then_some (under || false) n) (table_of closing v (action a) at (starts under false n)) t
   filled (unary o φ) at under n t =
       let own = starts under (temporal1 o) n in
-      put (under || temporal1 o) n (table_of closing v (unary o φ) at own) (filled φ (suc at) (is_next o) (after (temporal1 o) own) t)
+      put (then_some (under || temporal1 o) n) (table_of closing v (unary o φ) at own) (filled φ (suc at) (is_next o) (after (temporal1 o) own) t)
   filled (binary o φ ψ) at under n t =
       let own = starts under (temporal2 o) n in
-      put (under || temporal2 o) n (table_of closing v (binary o φ ψ) at own)
+      put (then_some (under || temporal2 o) n) (table_of closing v (binary o φ ψ) at own)
       (filled ψ (suc at + size φ) false (behind φ false (after (temporal2 o) own)) (filled φ (suc at) false (after (temporal2 o) own) t))
 
   -- what the walk answers at a position, and the tables that it leaves

@@ -3,9 +3,9 @@ ghost use Rattle.std.specs.Prelude.{◌≡◌, ◌*◌, ◌^◌, ◌<◌};
 ghost use Rattle.model.specs.Bits.{bit, digit};
 ghost use Rattle.model.specs.logic.Parts.{most_bytes};
 ghost use Rattle.model.specs.logic.Reading.{parsed};
-ghost use Rattle.residual.specs.Facts.{truth_bit, truths_read};
+ghost use Rattle.residual.specs.Facts.{truth_bit, fact_truths};
 ghost use Rattle.residual.specs.Pass.{Legible, read_code};
-ghost use Rattle.residual.specs.Residual.{Ready};
+ghost use Rattle.residual.specs.Residual.{Ready, formula_of};
 
 use model::Code;
 
@@ -36,21 +36,15 @@ fn read_code(s: &[u8], state: u64, r: Reading) -> Reading
             truths: r.truths | truth_at(state, s[b], at),
             at: b + 1,
         },
-        Code::Action => Reading {
-            truths: r.truths,
-            at: b + 1,
-        },
-        _ => Reading {
-            truths: r.truths,
-            at: b,
-        },
+        Code::Action => Reading { at: b + 1, ..r },
+        _ => Reading { at: b, ..r },
     }
 }
 
 // The truths of the formula's fact codes.
 pub fn read(s: &[u8], state: u64) -> u64
     requires { Ready s.now (parsed 64 64 s.now 0) }
-    ensures { result ≡ truths_read (parsed 64 64 s.now 0) state }
+    ensures { result ≡ fact_truths (formula_of (parsed 64 64 s.now 0)) 0 state }
 {
     let mut r = Reading { truths: 0, at: 0 };
     // A code takes one byte or two, so the positions are no range.

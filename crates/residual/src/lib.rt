@@ -2,26 +2,51 @@
 // truths of its fact codes; a walk over them, which is given these truths and no state, makes the table.
 #![tactic(auto)]
 
-ghost use Rattle.std.specs.Prelude.{◌≡◌, true, false, ◌+◌, ◌<◌, ◌≤◌};
-ghost use Rattle.model.specs.logic.Parts.{most_parts};
+ghost use Rattle.std.specs.Prelude.{◌≡◌, false, ◌+◌, ◌<◌, ◌≤◌, IfSome};
+ghost use Rattle.std.specs.Bool.{then_some};
+ghost use Rattle.model.specs.logic.Parts.{most_parts, count, parts_of};
+ghost use Rattle.model.specs.logic.Progression.{residual, progressed, closing};
 ghost use Rattle.model.specs.logic.Reading.{parsed};
-ghost use Rattle.bits.specs.Tables.{everywhere};
+ghost use Rattle.model.specs.logic.Truth.{is_made};
+ghost use Rattle.bits.specs.Tables.{everywhere, Upward};
 ghost use Rattle.formula.specs.Extent.{carries};
-ghost use Rattle.residual.specs.Node.{truth0, of_nothing1, of_nothing2, after, ahead_table, table1, table2, valuation_of};
+ghost use Rattle.residual.specs.Node.{is_closing, made_in, truth0, of_nothing1, of_nothing2, after, ahead_table, table1, table2, valuation_of};
 ghost use Rattle.residual.specs.Walk.{starts, put, numbers_of, Few, evaluated, filled_by, leaf, one, two};
-ghost use Rattle.residual.specs.Residual.{Ready, IsTables, residual_of, progressed_of, closing_of};
+ghost use Rattle.residual.specs.Residual.{Ready, formula_of, IsTables};
 
 use model::{Binary, Code, Constant, MOST_PARTS, Unary};
+use std::marker::Model;
 
 mod facts; // facts.rt: the truths of a formula's fact codes
 
-// What is known of a world: the truths of the formula's fact codes, the action that was made, if one was, and whether it
-// is the closing one.
+// Which world is meant: one after an action, or the closing one. `After(None)`: no action was made, or (in a memo) one that the formula does not name.
+#[derive(Clone, Copy, Debug, PartialEq, Eq)]
+pub enum World {
+    After(Option<u8>),
+    Closing,
+}
+
+impl World {
+    fn is_closing(self) -> bool
+        ensures { result ≡ is_closing self }
+    {
+        self == World::Closing
+    }
+
+    #[tactic(auto, using(crate::proofs::Nodes::compared_action))]
+    fn has_made(self, action: u8) -> bool
+        ensures { result ≡ is_made (made_in self) action }
+    {
+        self == World::After(Some(action))
+    }
+}
+
+// A formula's bytes in a world: what is known of it are the truths of the formula's fact codes, and which one it is.
 #[derive(Clone, Copy)]
-struct Moment {
+struct Moment<'a> {
+    bytes: &'a [u8],
     truths: u64,
-    action: Option<u8>,
-    closing: bool,
+    world: World,
 }
 
 // What a formula comes to: its truth table, the position after it, and the number of the first carried part after it.
@@ -89,16 +114,13 @@ fn table_two(o: Binary, p: u64, q: u64, rest: u64) -> u64
     }
 }
 
-// The number that a formula's own unknown has, or the first part in it if it has none.
+// The number that a formula's own unknown has, or the first part in it if it has none. `under` and `n` are new at each operand, so a struct of both would be
+// built at each call.
 fn own_number(under: bool, carried: bool, n: usize) -> usize
     requires { n ≤ most_parts }
     ensures { (result ≡ starts under carried n) × (result ≤ most_parts + 1) }
 {
-    if under {
-        if carried { n } else { n + 1 }
-    } else {
-        n
-    }
+    if under && !carried { n + 1 } else { n }
 }
 
 // The number of the first part inside.
@@ -109,11 +131,11 @@ fn inner_number(carried: bool, own: usize) -> usize
     if carried { own + 1 } else { own }
 }
 
-// How a formula counts among the parts: whether it is one, the number of its own unknown, and that of the first part
-// inside.
+// How a formula counts among the parts: the number under which its table is kept, if it is one, the number of its own
+// unknown, and that of the first part inside.
 #[derive(Clone, Copy)]
 struct Numbering {
-    part: bool,
+    part: Option<usize>,
     own: usize,
     inner: usize,
 }
@@ -125,7 +147,7 @@ fn numbers_of(code: Code, under: bool, n: usize) -> Numbering
     let carried = formula::is_carried(code);
     let own = own_number(under, carried, n);
     Numbering {
-        part: formula::is_part(code, under),
+        part: formula::is_part(code, under).then_some(n),
         own,
         inner: inner_number(carried, own),
     }
@@ -167,12 +189,12 @@ fn with_two(o: Binary, p: Value, q: Value, own: usize, closing: bool) -> Value
 }
 
 // Keeps the table of a formula that is a carried part.
-fn keep(tables: &mut [u64; MOST_PARTS], part: bool, number: usize, v: Value) -> Value
-    requires { part ≡ true → number < most_parts }
-    ensures { (result ≡ v) × (tables.new ≡ put part number v.table tables.old) }
+fn keep(tables: &mut [u64; MOST_PARTS], part: Option<usize>, v: Value) -> Value
+    requires { IfSome part (λ i. i < most_parts) }
+    ensures { (result ≡ v) × (tables.new ≡ put part v.table tables.old) }
 {
-    if part {
-        tables[number] = v.table;
+    if let Some(i) = part {
+        tables[i] = v.table;
     }
     v
 }
@@ -181,50 +203,46 @@ fn keep(tables: &mut [u64; MOST_PARTS], part: bool, number: usize, v: Value) -> 
 fn leaf(tables: &mut [u64; MOST_PARTS], truth: bool, next: usize, under: bool, n: usize) -> Value
     requires { starts under false n ≤ most_parts }
     ensures { (result ≡ leaf truth next (starts under false n))
-        × (tables.new ≡ put under n (everywhere most_parts truth) tables.old) }
+        × (tables.new ≡ put (then_some under n) (everywhere most_parts truth) tables.old) }
 {
     let v = with_none(truth, next, own_number(under, false, n));
-    keep(tables, under, n, v)
+    keep(tables, under.then_some(n), v)
 }
 
-// The formula at a position, and the tables of its carried parts; `under` says that it is the operand of a next, n numbers
-// the first part.
-fn evaluate(
-    s: &[u8],
-    at: usize,
-    m: &Moment,
-    under: bool,
-    n: usize,
-    tables: &mut [u64; MOST_PARTS],
-) -> Value
-    requires { Few (parsed 64 64 s.now at) under n }
-    ensures { (result ≡ evaluated m.now.closing (valuation_of m.now) (parsed 64 64 s.now at) at under n)
-        × (tables.new ≡ filled_by m.now.closing (valuation_of m.now) (parsed 64 64 s.now at) at under n tables.old) }
-{
-    let code = Code::from(s[at]);
-    let b = at + 1;
-    match code {
-        Code::Leaf(c) => leaf(tables, truth_of(c, m.closing), b, under, n),
-        Code::Fact => leaf(
-            tables,
-            bits::bit_at(m.truths, (at / 2) as u8),
-            b + 1,
-            under,
-            n,
-        ),
-        Code::Action => leaf(tables, m.action == Some(s[b]), b + 1, under, n),
-        Code::One(o) => {
-            let k = numbers_of(code, under, n);
-            let p = evaluate(s, b, m, o == Unary::Next, k.inner, tables);
-            keep(tables, k.part, n, with_one(o, p, k.own, m.closing))
+impl<'a> Moment<'a> {
+    // The formula at a position, and the tables of its carried parts; `under` says that it is the operand of a next, n numbers
+    // the first part.
+    fn evaluate(&self, at: usize, under: bool, n: usize, tables: &mut [u64; MOST_PARTS]) -> Value
+        requires { Few (parsed 64 64 self.now.bytes.now at) under n }
+        ensures { (result ≡ evaluated (is_closing self.now.world) (valuation_of self.now) (parsed 64 64 self.now.bytes.now at) at under n)
+            × (tables.new ≡ filled_by (is_closing self.now.world) (valuation_of self.now) (parsed 64 64 self.now.bytes.now at) at under n tables.old) }
+    {
+        let code = Code::from(self.bytes[at]);
+        let b = at + 1;
+        let closing = self.world.is_closing();
+        match code {
+            Code::Leaf(c) => leaf(tables, truth_of(c, closing), b, under, n),
+            Code::Fact => {
+                let truth = bits::bit_at(self.truths, (at / 2) as u8);
+                leaf(tables, truth, b + 1, under, n)
+            }
+            Code::Action => {
+                let made = self.world.has_made(self.bytes[b]);
+                leaf(tables, made, b + 1, under, n)
+            }
+            Code::One(o) => {
+                let k = numbers_of(code, under, n);
+                let p = self.evaluate(b, o == Unary::Next, k.inner, tables);
+                keep(tables, k.part, with_one(o, p, k.own, closing))
+            }
+            Code::Two(o) => {
+                let k = numbers_of(code, under, n);
+                let p = self.evaluate(b, false, k.inner, tables);
+                let q = self.evaluate(p.next, false, p.parts, tables);
+                keep(tables, k.part, with_two(o, p, q, k.own, closing))
+            }
+            Code::Unknown => with_none(false, at, n),
         }
-        Code::Two(o) => {
-            let k = numbers_of(code, under, n);
-            let p = evaluate(s, b, m, false, k.inner, tables);
-            let q = evaluate(s, p.next, m, false, p.parts, tables);
-            keep(tables, k.part, n, with_two(o, p, q, k.own, m.closing))
-        }
-        Code::Unknown => with_none(false, at, n),
     }
 }
 
@@ -235,42 +253,73 @@ struct Tables {
     parts: [u64; MOST_PARTS],
 }
 
-// The tables of a formula in a world.
-fn tables_in(s: &[u8], state: u64, action: Option<u8>, closing: bool) -> Tables
-    requires { Ready s.now (parsed 64 64 s.now 0) }
-    ensures { IsTables (parsed 64 64 s.now 0) (record { state = state; made = action }) closing result }
-{
-    let mut parts = [0; MOST_PARTS];
-    let m = Moment {
-        truths: facts::read(s, state),
-        action,
-        closing,
-    };
-    let own = evaluate(s, 0, &m, false, 0, &mut parts).table;
-    Tables { own, parts }
+// The formula that a section's bytes stand for. A clause sees the model's formula.
+#[derive(Drop)]
+pub struct Formula<'a> {
+    bytes: &'a [u8],
 }
 
-// What a formula leaves after the first world, in which no action was made.
-pub fn first(s: &[u8], state: u64) -> u64
-    requires { Ready s.now (parsed 64 64 s.now 0) }
-    ensures { result ≡ residual_of (parsed 64 64 s.now 0) (record { state = state; made = None }) }
-{
-    tables_in(s, state, None, false).own
+impl<'a> Model for Formula<'a> {
+    ghost use Rattle.model.specs.logic.Formula.{Formula as Rule};
+    ghost use Rattle.model.specs.logic.Reading.{parsed};
+    ghost use Rattle.model.specs.logic.Truth.{is_made};
+    ghost use Rattle.residual.specs.Stored.{formula_code};
+    ghost use Rattle.residual.specs.Residual.{Ready, formula_of};
+
+    ghost Value = { Rule };
+
+    ghost coded = { formula_code };
+
+    ghost view = { λ f. formula_of (parsed 64 64 f.bytes.now 0) };
+
+    ghost invariant = { λ f. Ready f.bytes.now (parsed 64 64 f.bytes.now 0) };
 }
 
-// What a residual leaves after a world.
-pub fn next(s: &[u8], r: u64, state: u64, action: Option<u8>) -> u64
-    requires { Ready s.now (parsed 64 64 s.now 0) }
-    ensures { result ≡ progressed_of (parsed 64 64 s.now 0) r (record { state = state; made = action }) }
-{
-    bits::substitute(r, tables_in(s, state, action, false).parts)
-}
+#[tactic(auto, using(crate::proofs::AnswerLaws::answers))]
+impl<'a> Formula<'a> {
+    // Of bytes that are known to be a formula, which has no more carried parts and no more bytes than it may.
+    pub fn new(bytes: &'a [u8]) -> Formula<'a>
+        requires { Ready bytes.now (parsed 64 64 bytes.now 0) }
+        ensures { result ≡ formula_of (parsed 64 64 bytes.now 0) }
+    {
+        Formula { bytes }
+    }
 
-// Whether a residual is true of the closing world.
-pub fn closing(s: &[u8], r: u64, state: u64) -> bool
-    requires { Ready s.now (parsed 64 64 s.now 0) }
-    ensures { result ≡ closing_of (parsed 64 64 s.now 0) r (record { state = state; made = None }) }
-{
-    let table = bits::substitute(r, tables_in(s, state, None, true).parts);
-    bits::bit_at(table, 0)
+    // What the three answers below share. An invariant is known only where a field is opened, so it says how many parts there are.
+    fn tables(&self, state: u64, world: World) -> Tables
+        ensures tables { IsTables self.now state world result }
+        ensures upward { Upward most_parts result.parts }
+        ensures few { count self.now ≤ most_parts }
+    {
+        let mut parts = [0; MOST_PARTS];
+        let m = Moment {
+            bytes: self.bytes,
+            truths: facts::read(self.bytes, state),
+            world,
+        };
+        let own = m.evaluate(0, false, 0, &mut parts).table;
+        Tables { own, parts }
+    }
+
+    // What the formula leaves after the first world, in which no action was made.
+    pub fn first(&self, state: u64) -> u64
+        ensures { result ≡ residual most_parts self.now (record { state = state; made = None }) }
+    {
+        self.tables(state, World::After(None)).own
+    }
+
+    // What a residual leaves after a world.
+    pub fn next(&self, r: u64, state: u64, action: Option<u8>) -> u64
+        ensures { result ≡ progressed most_parts (parts_of self.now) r (record { state = state; made = action }) }
+    {
+        bits::substitute(r, self.tables(state, World::After(action)).parts)
+    }
+
+    // Whether a residual is true of the closing world.
+    pub fn closing(&self, r: u64, state: u64) -> bool
+        ensures { result ≡ closing (parts_of self.now) r (record { state = state; made = None }) }
+    {
+        let table = bits::substitute(r, self.tables(state, World::Closing).parts);
+        bits::bit_at(table, 0)
+    }
 }

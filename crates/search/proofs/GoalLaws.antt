@@ -1,24 +1,26 @@
 -- Laws of the goals of a key and of the cut slots, in a list of slots.
-use Rattle.std.proofs.Common.{◌≡◌, refl, sym, ap, ◌∙◌, Bool, true, false, Option, None, Some, List, ℕ, zero, suc, ◌+◌, ◌-◌, ◌≤◌, ◌<◌, arith, add-one, length}
+use Rattle.std.proofs.Common.{◌≡◌, refl, sym, ap, ap₂, ◌∙◌, Bool, true, false, Option, None, Some, List, [], ◌∷◌, ℕ, zero, suc, ◌+◌, ◌-◌, ◌≤◌, ◌<◌}
+use Rattle.std.proofs.Common.{arith, length}
 use Rattle.std.proofs.Common.{drop, drop_of_length-le, drop-cons}
+use Rattle.std.specs.List.{list_any, range_with_len}
 use mathlib.Core.Bool.{◌||◌}
 use Rattle.model.specs.logic.Formula.{choose}
 use Rattle.model.specs.exploration.Key.{Key}
 use Rattle.model.proofs.exploration.KeyLaws.{same_key_lem}
 use Rattle.model.proofs.Tests.{and_both}
+use Rattle.task.specs.Meaning.{key_is}
 use Rattle.table.specs.declared.Slot.{Slot}
 use Rattle.table.specs.Slots.{slot_in, no_slot}
-use Rattle.table.specs.Lookup.{key_of}
 use Rattle.paths.specs.Chain.{order, Level}
 use Rattle.search.specs.GoalSlots.{slot_cut, any_cut, due, chosen, first_due, After}
 
 -- ---- a slot that is due
 
 -- A slot that is due has that cost and so many steps.
-pub due_key : (job : List ℕ) (k : Key) (x : Slot) → due job k x ≡ true → (x.cost ≡ k.cost) × (x.steps ≡ k.steps)
+pub due_key : (job : List ℕ) (k : Key) (x : Slot) → due job k x ≡ true → (x.key.cost ≡ k.cost) × (x.key.steps ≡ k.steps)
 unfolding due
 due_key job k x h =
-    let e : key_of x.cost x.steps ≡ k = same_key_lem _ _ ((and_both _ _).0 ((and_both _ _).0 h).0).0 in
+    let e : key_is x.key ≡ k = same_key_lem _ _ ((and_both _ _).0 ((and_both _ _).0 h).0).0 in
     (ap (λ (y : Key). y.cost) e, ap (λ (y : Key). y.steps) e)
 
 -- What was found after slot i, which is due, can be compared with it.
@@ -73,30 +75,14 @@ module _ (job : List ℕ) (k : Key) (ss : List Slot) where
   pub due_after : (i : ℕ) → i ≤ length ss → After ss i k (From i)
   due_after i l = after_from (length ss - i) i (omega arith)
 
--- ---- a cut slot among all; the first i are not cut
+-- ---- a cut slot among all
 
-module _ (job : List ℕ) (ss : List Slot) (i : ℕ) where
-  abbrev CutIn : List Slot → Bool
-  CutIn xs = any_cut job xs
-
-  module _ {d : Bool} (rest : CutIn ss ≡ CutIn (drop i ss)) (cut : d ≡ slot_cut job (slot_in ss i)) (inside : i < length ss) where
-    -- Slot i is cut, or one after it, exactly if any is.
-    front : CutIn ss ≡ d || CutIn (drop (suc i) ss)
-    unfolding any_cut
-    front = rest ∙ rw (drop-cons ss i no_slot inside) (ap (λ (b : Bool). b || CutIn (drop (suc i) ss)) (sym cut))
-
-    -- If slot i is cut, one of all is.
-    pub cut_here : d ≡ true → true ≡ CutIn ss
-    cut_here e = sym (front ∙ rw e refl)
-
-    -- If slot i is not cut, those after it decide.
-    pub cut_on : d ≡ false → CutIn ss ≡ CutIn (drop (i + 1) ss)
-    cut_on e = front ∙ rw (e, add-one i) refl
-
-  -- After the last slot there is none that is cut.
-  pub cut_end : CutIn ss ≡ CutIn (drop i ss) → length ss ≤ i → false ≡ CutIn ss
-  unfolding any_cut
-  cut_end r g = sym (r ∙ rw (drop_of_length-le ss g))
-
--- what the goals of `some_cut` need
-pub ruleset cut_laws = (cut_here, cut_on, cut_end)
+-- Some slot is cut exactly if one is of those that are numbered from a on.
+pub any_numbered : (job : List ℕ) (f : ℕ → Slot) (ss : List Slot) (a : ℕ) → ((k : ℕ) → k < length ss → f (a + k) ≡ slot_in ss k)
+    → list_any (λ k. slot_cut job (f k)) (range_with_len a (length ss)) ≡ any_cut job ss
+unfolding any_cut
+any_numbered job f [] a h = refl
+any_numbered job f (x ∷ xs) a h =
+    let z : a + 0 ≡ a = omega arith in
+    ap₂ (λ (b c : Bool). b || c) (ap (slot_cut job) (rw z at (h 0 (omega arith))))
+    (any_numbered job f xs (a + 1) (λ k l. let e : a + 1 + k ≡ a + suc k = omega arith in rw e (h (suc k) (omega arith))))

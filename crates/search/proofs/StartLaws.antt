@@ -1,5 +1,9 @@
 -- The start of a search: the start node in slot 0, and what the whole search comes to.
-use Rattle.std.proofs.Common.{◌≡◌, refl, sym, ap, ◌∙◌, subst, Bool, false, None, Some, List, [], ◌∷◌, ◌++◌, ℕ, suc, ◌<◌, length, arith, lt-ltb, le-ltb}
+use Rattle.std.proofs.Common.{◌≡◌, refl, sym, ap, ◌∙◌, subst, Bool, false, Option, None, Some, Ok, Err, List, [], ◌∷◌, ◌++◌, ℕ, suc, ◌<◌}
+use Rattle.std.proofs.Common.{IsErrAnd, length, arith, lt-ltb, le-ltb}
+use Rattle.std.specs.Option.{ok_or}
+use Rattle.model.specs.declared.Reason.{Reason}
+use Rattle.model.specs.declared.Reason.TheVariants.{NoPlan}
 use Rattle.model.specs.exploration.System.{System}
 use Rattle.model.specs.exploration.Key.{zero_key}
 use Rattle.model.specs.exploration.Equations.{no_plan}
@@ -8,7 +12,7 @@ use Rattle.model.specs.search.JobSystem.{is_goal, start_hints}
 use Rattle.model.specs.search.Query.{Query, job_for}
 use Rattle.model.proofs.rights.Steps.{hints_same}
 use Rattle.astar.specs.Records.{Held}
-use Rattle.astar.specs.Search.{answered, too_small, turns, start_table, search_in}
+use Rattle.astar.specs.Search.{Result, answered, too_small, turns, start_table, search_in}
 use Rattle.astar.proofs.Turning.{Ready, start_ready}
 use Rattle.astar.proofs.Right.{by_start}
 use Rattle.table.specs.declared.Slot.{Slot}
@@ -18,14 +22,30 @@ use Rattle.held.specs.Held.{sys, node_for, held_is, held_in, FitsSlot}
 use Rattle.held.specs.Running.{Idle}
 use Rattle.held.proofs.JobLaws.{sys_laws}
 use Rattle.expansion.proofs.Making.{made_sound}
-use Rattle.search.specs.Outcome.{Ended, EndsAs, Starts, Begun}
+use Rattle.search.specs.Outcome.{Ended, EndsFor, EndsAs, Starts, Begun}
+use Rattle.search.proofs.TurnLaws.{passed}
+
+-- ---- whether the start is reached
+
+-- What a value became that was there, and what it was refused with where none was.
+pub there : {A : Type 0} (o : Option A) (r : Reason) {x : A} → Ok x ≡ ok_or o r → o ≡ Some x
+there None r e = absurd cc
+there (Some y) r e = cc
+
+pub missing : {A : Type 0} (o : Option A) {r e : Reason} → Err e ≡ ok_or o r → (o ≡ None) × (e ≡ r)
+missing None e = (refl, cc)
+missing (Some y) e = absurd cc
+
+-- Where the start is not reached, the search ends with 12.
+pub not_reached : (t : Table) (x : Ended) (r : Reason) {res : Result} → IsErrAnd x (λ y. y ≡ r) → r ≡ NoPlan → res ≡ answered (no_plan 12) → EndsAs t x res
+not_reached t x r {res} p e h = passed (λ (y : Ended). EndsAs t y res) x p (subst (λ (z : Reason). EndsFor z res) (sym e) h)
 
 -- ---- the start node in slot 0
 
 -- the slot of a start node
 abbrev pub start_slot : List ℕ → List ℕ → ℕ → Bool → Slot
 start_slot node hints estimate goal =
-    record { node = node; hints = hints; cost = 0; steps = 0; estimate = estimate; parent = 0; action = 0; taken = false; goal = goal }
+    record { node = node; hints = hints; key = record { cost = 0; steps = 0 }; estimate = estimate; parent = 0; action = 0; taken = false; goal = goal }
 
 -- It stands for the start node's record, is well formed, and fits.
 pub begun : (job node hints : List ℕ) {t u : Table} {estimate : ℕ} {goal : Bool} → Clean (constraint_count job) node → FitsSlot estimate

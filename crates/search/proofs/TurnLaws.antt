@@ -1,7 +1,6 @@
 -- One turn of the search: what it comes to by what is found, first for any system, then for a job's table.
 use Rattle.std.proofs.Common.{◌≡◌, refl, sym, ap, ◌∙◌, subst, Bool, true, false, Option, None, Some, Ok, Err, List, ℕ, zero, suc, ◌-◌, ◌<◌, length, length-set}
-use Rattle.std.proofs.Common.{arith}
-use Rattle.std.specs.Prelude.{is_err}
+use Rattle.std.proofs.Common.{arith, Result, IsErrAnd}
 use Rattle.model.specs.declared.Reason.{Reason}
 use Rattle.model.specs.declared.Reason.TheVariants.{TableTooSmall}
 use Rattle.model.specs.Reason.{number_of, reason_of, reason_is}
@@ -11,11 +10,13 @@ use Rattle.model.specs.logic.Formula.{choose}
 use Rattle.model.specs.search.Query.{Query}
 use Rattle.astar.specs.Records as astar
 use Rattle.astar.specs.Records.{Held, Open, least_open, take-it, mark}
-use Rattle.astar.specs.Search.{Result, answered, too_small, Filled, goes_on, full, follow, expand, first_goal, has_cut_in, exhausted, turns}
+use Rattle.astar.specs.Search as search
+use Rattle.astar.specs.Search.{answered, too_small, Filled, goes_on, full, follow, expand, first_goal, has_cut_in, exhausted, turns}
 use Rattle.astar.proofs.Slots.{Holds, holds_one}
 use Rattle.astar.proofs.Sending.{Expanding}
 use Rattle.astar.proofs.Turning as turning
 use Rattle.astar.proofs.Turning.{Ready, turn_cut, turn_uncut, turn_expanded}
+use Rattle.job.proofs.TurnLaws.{passed_on}
 use Rattle.table.specs.Slots.{slot_in}
 use Rattle.table.specs.Tables.{Table, marked}
 use Rattle.table.specs.Lookup.{rank_at}
@@ -26,10 +27,11 @@ use Rattle.held.proofs.JobLaws.{sys_laws}
 use Rattle.held.proofs.HeldLaws.{held_at}
 use Rattle.held.proofs.Storing.{mark_held, mark_sound}
 use Rattle.held.proofs.Chains.{chained}
+use Rattle.expansion.specs.declared.Full.{Full}
 use Rattle.expansion.specs.Growth.{Grown, Grew}
 use Rattle.expansion.proofs.GrowthLaws.{grew_none, grew_held, grew_running}
 use Rattle.search.specs.GoalSlots.{slot_cut, any_cut, first_due, After}
-use Rattle.search.specs.Outcome.{Ended, EndsFor, EndsAs, Turned, Least, Taking}
+use Rattle.search.specs.Outcome.{Ended, EndsFor, EndsAs, GoesOn, EndsIn, Least, Taking}
 use Rattle.search.proofs.GoalLaws.{due_after}
 use Rattle.search.proofs.FirstGoal.{path_found, goal_found, cut_records}
 
@@ -76,6 +78,10 @@ expand_taken S places t r i zero = refl
 expand_taken S places t r i (suc c) =
     ap (λ (g : Filled S). elim g as (λ z. Filled S) [ full ↦ full | goes_on u ↦ follow S places u r i c ]) (expand_taken S places t r i c)
 
+-- What holds of the reason that a `?` passes on holds of what it gives.
+pub passed : {A : Type 0} {r : Reason} (P : Result A Reason → Type 0) (x : Result A Reason) → IsErrAnd x (λ y. y ≡ r) → P (Err r) → P x
+passed P x h e = subst P (sym (passed_on x h)) e
+
 -- ---- a job's table
 
 -- The slots in use are chained.
@@ -83,7 +89,7 @@ pub idle_chained : {job : Query} {t : Table} → Idle job t → Chained t.slots
 idle_chained {job} {t} d = chained job t.slots d.2.inv
 
 -- The reason of number 11 or 12 is that of the result with that number.
-ends_for : (r : Reason) (b : Bool) {res : Result} → number_of r ≡ choose b 11 12 → res ≡ answered (no_plan (choose b 11 12)) → EndsFor r res
+ends_for : (r : Reason) (b : Bool) {res : search.Result} → number_of r ≡ choose b 11 12 → res ≡ answered (no_plan (choose b 11 12)) → EndsFor r res
 unfolding reason_of
 ends_for r b {res} e h = go b e h
   where
@@ -93,23 +99,27 @@ ends_for r b {res} e h = go b e h
 
 -- No slot is open: the reason is the end.
 pub nothing_ends : (job : Query) (t : Table) (r : Reason) → least_open (sys job) (held_in job.bytes t.slots) 0 ≡ None
-    → number_of r ≡ choose (any_cut job.bytes t.slots) 11 12 → Turned job t t (Some (Err r))
+    → number_of r ≡ choose (any_cut job.bytes t.slots) 11 12 → EndsIn job t t (Err r)
 nothing_ends job t r e h = λ k.
     ends_for r _ h (turn_none (sys job) t.room (held_in job.bytes t.slots) k e
     ∙ ap answered (exhausted_by (sys job) (held_in job.bytes t.slots) _ (cut_records job t.slots)))
 
 -- Between two turns, with k turns left, a search comes to res.
-pub record Going (job : Query) (t : Table) (k : ℕ) (res : Result) : Type 0 where
+pub record Going (job : Query) (t : Table) (k : ℕ) (res : search.Result) : Type 0 where
   pub idle : Idle job t
   pub comes : turns (sys job) t.room k (held_in job.bytes t.slots) ≡ res
 
-module _ {job : Query} {t : Table} {k : ℕ} {res : Result} (going : Going job t k res) where
+module _ {job : Query} {t : Table} {k : ℕ} {res : search.Result} (going : Going job t k res) where
   counted : {l : ℕ} → k ≡ l → turns (sys job) t.room l (held_in job.bytes t.slots) ≡ res
   counted e = ap (λ (n : ℕ). turns (sys job) t.room n (held_in job.bytes t.slots)) (sym e) ∙ going.comes
 
   -- A turn that ends the search ends it as res.
-  pub turn_ends : (u : Table) (e : Ended) → Turned job t u (Some e) → 0 < k → EndsAs u e res
+  pub turn_ends : (u : Table) (e : Ended) → EndsIn job t u e → 0 < k → EndsAs u e res
   turn_ends u e h l = subst (EndsAs u e) (counted (omega arith)) (h (k - 1))
+
+  -- It is so, too, where a `?` passes the reason on.
+  pub turn_passed : (u : Table) (x : Ended) (r : Reason) → IsErrAnd x (λ y. y ≡ r) → EndsIn job t u (Err r) → 0 < k → EndsAs u x res
+  turn_passed u x r p h l = passed (λ (e : Ended). EndsAs u e res) x p (turn_ends u (Err r) h l)
 
   -- Where no turn is left, the table is full.
   pub turns_over : k ≡ 0 → res ≡ too_small
@@ -122,15 +132,15 @@ module _ {job : Query} {t : Table} (idle : Idle job t) {i : ℕ} (l : Least job 
   S = sys job
 
   goals : first_goal S (held_in job.bytes t.slots) (rank_at (slot_in t.slots i)) (held_in job.bytes t.slots) 0
-      ≡ path_found t.slots (slot_in t.slots i).steps f
+      ≡ path_found t.slots (slot_in t.slots i).key.steps f
   goals = rw found (goal_found job t.slots idle.1.sound idle.2.inv (rank_at (slot_in t.slots i)))
 
   -- A goal has the least rank: its slot is the answer's.
-  pub goal_ends : {g : ℕ} → f ≡ Some g → Turned job t t (Some (Ok g))
+  pub goal_ends : {g : ℕ} → f ≡ Some g → EndsIn job t t (Ok g)
   goal_ends {g} e = λ k.
       let b : After t.slots 0 (rank_at (slot_in t.slots i)) (Some g)
       = subst (After t.slots 0 (rank_at (slot_in t.slots i))) (sym found ∙ e) (due_after job.bytes (rank_at (slot_in t.slots i)) t.slots 0 (omega arith)) in
-      let p = goals ∙ ap (path_found t.slots (slot_in t.slots i).steps) e in (
+      let p = goals ∙ ap (path_found t.slots (slot_in t.slots i).key.steps) e in (
         idle_chained idle,
         b.1,
         turn_goal S t.room (held_in job.bytes t.slots) k l.least p ∙ (λ z. answered (plan (sym b.2 z) (slot_path t.slots (sym b.3 z) g))),
@@ -138,7 +148,7 @@ module _ {job : Query} {t : Table} (idle : Idle job t) {i : ℕ} (l : Least job 
 
   -- None has: its slot is taken.
   pub none_takes : f ≡ None → Taking job t i
-  none_takes e = record { idle = idle; chosen = l; no_goal = goals ∙ ap (path_found t.slots (slot_in t.slots i).steps) e }
+  none_takes e = record { idle = idle; chosen = l; no_goal = goals ∙ ap (path_found t.slots (slot_in t.slots i).key.steps) e }
 
 -- Slot i is taken: the table is u then.
 module _ {job : Query} {t : Table} {i : ℕ} (taking : Taking job t i) where
@@ -175,9 +185,9 @@ module _ {job : Query} {t : Table} {i : ℕ} (taking : Taking job t i) where
       }
 
   -- After a slot that is cut the search goes on.
-  pub cut_turned : true ≡ slot_cut job.bytes (slot_in t.slots i) → Turned job t (marked t i) None
+  pub cut_goes_on : true ≡ slot_cut job.bytes (slot_in t.slots i) → GoesOn job t (marked t i)
   unfolding slot_cut held_is
-  cut_turned c =
+  cut_goes_on c =
       let ready = (turn_cut (sys job) t.room taking.idle.2 taking.chosen.least slot taking.no_goal (sys_laws job) (sym c)).0 in (
         (taking.idle.0, running, subst (Ready (sys job) t.room taking.idle.0) (sym same) ready),
         refl,
@@ -213,8 +223,8 @@ module _ {job : Query} {t : Table} {i : ℕ} (taking : Taking job t i) where
           expand_taken (sys job) t.room (mark (sys job) T i) r i (sys job).actions
           ∙ (λ z. expand (sys job) t.room (sym same z) (now_taken z) i (sys job).actions)
 
-      pub grown_turned : (x : Grown) → Expanded x → is_err x ≡ false → Turned job t v None
-      grown_turned (Ok u) g e =
+      pub grown_goes_on : {u : Unit {0}} → Expanded (Ok u) → GoesOn job t v
+      grown_goes_on g =
           let w = same_expanded ∙ grew_held g refl in
           let m0 = taking.idle.0 in
           let ready = subst (turning.Turned (sys job) t.room taking.idle.2 taking.chosen.least slot taking.no_goal (sys_laws job)) w
@@ -223,8 +233,6 @@ module _ {job : Query} {t : Table} {i : ℕ} (taking : Taking job t i) where
             g.same_room,
             λ k. turn_on (sys job) t.room T k taking.chosen.least taking.no_goal slot c w,
           )
-      grown_turned (Err u) g e = absurd cc
 
-      pub full_ends : (x : Grown) → Expanded x → is_err x ≡ true → Turned job t v (Some (Err TableTooSmall))
-      full_ends (Ok u) g e = absurd cc
-      full_ends (Err u) g e = λ k. turn_full (sys job) t.room T k taking.chosen.least taking.no_goal slot c (same_expanded ∙ grew_none g refl)
+      pub full_ends : {u : Full} → Expanded (Err u) → EndsIn job t v (Err TableTooSmall)
+      full_ends g = λ k. turn_full (sys job) t.room T k taking.chosen.least taking.no_goal slot c (same_expanded ∙ grew_none g refl)

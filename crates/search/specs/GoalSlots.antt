@@ -4,9 +4,9 @@ use Rattle.model.specs.logic.Formula.{choose}
 use Rattle.model.specs.exploration.Key.{Key, same_key}
 use Rattle.model.specs.job.Layout.{hint_count}
 use Rattle.model.specs.search.Node.{some_dead}
+use Rattle.task.specs.Meaning.{key_is}
 use Rattle.table.specs.declared.Slot.{Slot}
 use Rattle.table.specs.Slots.{no_slot}
-use Rattle.table.specs.Lookup.{key_of}
 use Rattle.nodes.specs.Meaning.{hints_is}
 use Rattle.paths.specs.Chain.{steps_at, order}
 
@@ -24,7 +24,7 @@ any_cut job (x ∷ xs) = slot_cut job x || any_cut job xs
 -- whether a slot is an uncut goal of a key
 unfoldable pub due : List ℕ → Key → Slot → Bool
 unfolding same_key slot_cut
-due job k x = same_key (key_of x.cost x.steps) k && not (slot_cut job x) && x.goal
+due job k x = same_key (key_is x.key) k && not (slot_cut job x) && x.goal
 
 -- of slot i, if it is due, and the slot found after it, the one whose path comes first
 unfoldable pub chosen : List Slot → Bool → ℕ → Option ℕ → Option ℕ
@@ -40,4 +40,4 @@ first_due job k ss (x ∷ xs) i = chosen ss (due job k x) i (first_due job k ss 
 -- What was found, if anything, is a slot from i on, of that key.
 abbrev pub After : List Slot → ℕ → Key → Option ℕ → Type 0
 After ss i k None = Unit {0}
-After ss i k (Some b) = (i ≤ b) × (b < length ss) × ((get_or ss b no_slot).cost ≡ k.cost) × (steps_at ss b ≡ k.steps)
+After ss i k (Some b) = (i ≤ b) × (b < length ss) × ((get_or ss b no_slot).key.cost ≡ k.cost) × (steps_at ss b ≡ k.steps)

@@ -37,15 +37,29 @@ EndsFor _ res = ⊥
 -- A table's slots and what the code says of them are this result. A goal's path can be followed from slot to slot.
 abbrev pub EndsAs : Table → Ended → astar.Result → Type 0
 EndsAs t (Ok g) res =
-    Chained t.slots × (g < length t.slots) × (res ≡ answered (plan (slot_in t.slots g).cost (slot_path t.slots (steps_at t.slots g) g)))
+    Chained t.slots × (g < length t.slots) × (res ≡ answered (plan (slot_in t.slots g).key.cost (slot_path t.slots (steps_at t.slots g) g)))
 EndsAs t (Err r) res = EndsFor r res
 
--- One turn from a table t: it goes on with u, or it ends.
-abbrev pub Turned : Query → Table → Table → Option Ended → Type 0
-Turned job t u None =
+-- The search of a job goes on from a table t with a table u.
+abbrev pub GoesOn : Query → Table → Table → Type 0
+GoesOn job t u =
     Idle job u × (u.room ≡ t.room)
     × ((k : ℕ) → turns (sys job) t.room (suc k) (held_in job.bytes t.slots) ≡ turns (sys job) t.room k (held_in job.bytes u.slots))
-Turned job t u (Some e) = (k : ℕ) → EndsAs u e (turns (sys job) t.room (suc k) (held_in job.bytes t.slots))
+
+-- The search of a job ends from a table t with a table u: this is said of it.
+abbrev pub EndsIn : Query → Table → Table → Ended → Type 0
+EndsIn job t u e = (k : ℕ) → EndsAs u e (turns (sys job) t.room (suc k) (held_in job.bytes t.slots))
+
+-- One turn from a table t: it ends at a slot, it goes on, or it ends without one.
+abbrev pub Turned : Query → Table → Table → Result (Option ℕ) Reason → Type 0
+Turned job t u (Ok (Some g)) = EndsIn job t u (Ok g)
+Turned job t u (Ok None) = GoesOn job t u
+Turned job t u (Err r) = EndsIn job t u (Err r)
+
+-- A slot of a table t is taken: the search goes on with u, or it ends.
+abbrev pub Took : Query → Table → Table → Result Unit Reason → Type 0
+Took job t u (Ok _) = GoesOn job t u
+Took job t u (Err r) = EndsIn job t u (Err r)
 
 -- Slot i is the open one of the least rank.
 pub record Least (job : Query) (t : Table) (i : ℕ) : Type 0 where
@@ -59,6 +73,7 @@ pub record Taking (job : Query) (t : Table) (i : ℕ) : Type 0 where
   pub no_goal : first_goal (sys job) (held_in job.bytes t.slots) (rank_at (slot_in t.slots i)) (held_in job.bytes t.slots) 0 ≡ None
 
 -- A search of an accepted job can begin in an empty table: its start node, of that array, is reached with that estimate, and there is a slot for it.
+-- It is asked in clauses, and no type says it, since it is about the query, the node, the estimate and the table, which no one value holds.
 pub record Starts (job : Query) (node : List ℕ) (estimate : ℕ) (t : Table) : Type 0 where
   pub accepted : job_verdict job.bytes ≡ no_refusal
   pub starts : (sys job).start ≡ Some (node_for job.bytes node)

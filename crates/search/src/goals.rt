@@ -1,4 +1,4 @@
-// The goals of a key: the one whose path comes first. And whether any node was cut.
+// The goals of a key: the one whose path comes first. And whether any node was cut. The job and the table are lent side by side, as in the turns.
 ghost use Rattle.std.specs.Prelude.{◌≡◌, ◌+◌, ◌<◌, length};
 ghost use Rattle.table.specs.Slots.{slot_in};
 ghost use Rattle.task.specs.Meaning.{key_is};
@@ -33,7 +33,8 @@ fn choose(job: &Job, t: &Table, found: Option<usize>, i: usize, key: Key) -> Opt
     }
 }
 
-// The uncut goal of a key whose path comes first.
+// The uncut goal of a key whose path comes first. It is a loop: two slots can be compared only where both are due, and the closure of
+// `min_by` is not told what a `filter` before it tested.
 pub fn first_goal(job: &Job, t: &Table, key: Key) -> Option<usize>
     requires { Chained t.now.slots }
     ensures { result ≡ first_due job.now (key_is key) t.now.slots t.now.slots 0 }
@@ -55,14 +56,8 @@ pub fn slot_cut(job: &Job, t: &Table, i: usize) -> bool
 }
 
 // Whether any slot is cut.
-#[tactic(auto, using(crate::proofs::GoalLaws::cut_laws))]
 pub fn some_cut(job: &Job, t: &Table) -> bool
     ensures { result ≡ any_cut job.now t.now.slots }
 {
-    for i in 0..t.len() {
-        if slot_cut(job, t, i) {
-            return true;
-        }
-    }
-    false
+    (0..t.len()).any(|i| slot_cut(job, t, i))
 }

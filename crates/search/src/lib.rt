@@ -7,29 +7,22 @@ mod start; // start.rt: the start node, and the workspace
 mod result; // result.rt: what is handed back to the caller
 
 ghost use Rattle.std.specs.Prelude.{◌≡◌};
-ghost use Rattle.model.specs.calls.Call.{call};
 ghost use Rattle.model.specs.calls.Search.{search_end, SearchEnds};
 ghost use Rattle.model.specs.calls.Numbers.{search_numbers, PartGiven};
 ghost use Rattle.search.specs.Given.{runs_out};
 
 use model::{Planned, Reason, Refusal};
+use rights::Call;
 
 // What a search in a table comes to: the slot of the answer; or that the table is too small, or that there is no plan.
 type Ended = Result<usize, Reason>;
 
 // Searches for the job's plan by the steps that the caller may use, and writes it to the front of the plan buffer. Bytes that are no job, and a list of
 // needed rights of another length, are refused with nothing touched; on every other way out each byte of the table is zero.
-pub fn search(
-    job: &[u8],
-    needs: &[u8],
-    rights: u8,
-    table: &mut [u8],
-    plan: &mut [u8],
-) -> Result<Planned, Refusal>
-    ensures { SearchEnds runs_out (call job.now needs.now rights) table.old plan.old
-        (search_end result table.new plan.new) }
+pub fn search(call: &Call, table: &mut [u8], plan: &mut [u8]) -> Result<Planned, Refusal>
+    ensures { SearchEnds runs_out call.now table.old plan.old (search_end result table.new plan.new) }
 {
-    let query = rights::accept(job, needs, rights)?;
+    let query = call.accept()?;
     let end = result::answer(&query, table, plan);
     table::clear(table);
     end
@@ -54,18 +47,12 @@ pub struct Given<'a> {
     pub steps: &'a mut [u8],
 }
 
-// The same search, which hands the steps back.
-pub fn planned<'a>(
-    job: &[u8],
-    needs: &[u8],
-    rights: u8,
-    table: &mut [u8],
-    plan: &'a mut [u8],
-) -> Given<'a>
-    ensures { PartGiven runs_out (call job.now needs.now rights) table.old plan.entry.now table.new result.steps.now result.result
+// The same search, which hands the steps back. The two cases are written out, since a proof does not yet cover a Result that is read and then handed on.
+pub fn planned<'a>(call: &Call, table: &mut [u8], plan: &'a mut [u8]) -> Given<'a>
+    ensures { PartGiven runs_out call.now table.old plan.entry.now table.new result.steps.now result.result
         × (result.steps.ref_ptr ≡ plan.entry.ref_ptr) }
 {
-    match search(job, needs, rights, table, plan) {
+    match search(call, table, plan) {
         Ok(found) => Given {
             result: Ok(found),
             steps: &mut plan[..found.steps],

@@ -15,14 +15,12 @@ use table::Table;
 // Writes the path of slot g to the plan buffer, unless that is shorter.
 fn hand_over(t: &Table, g: usize, plan: &mut [u8]) -> Result<Planned, Refusal>
     requires { Chained t.now.slots × (g < length t.now.slots) }
-    ensures { HandsOver (slot_in t.now.slots g).cost (slot_path t.now.slots (steps_at t.now.slots g) g)
+    ensures { HandsOver (slot_in t.now.slots g).key.cost (slot_path t.now.slots (steps_at t.now.slots g) g)
         plan.old result plan.new }
 {
     let key = t.key(g);
     let steps = key.steps as usize;
-    if plan.len() < steps {
-        return Err(Refusal::new(Reason::BufferTooShort, steps));
-    }
+    model::unless(steps <= plan.len(), Reason::BufferTooShort, steps)?;
     paths::write(t, g, plan);
     Ok(Planned {
         cost: key.cost,
@@ -35,8 +33,6 @@ pub fn answer(q: &Query, bytes: &mut [u8], plan: &mut [u8]) -> Result<Planned, R
     ensures { search_end result (cleared bytes.old) plan.new ≡ end_of (search_in (sys q.now) (slots_in bytes.old)) bytes.old plan.old }
 {
     let mut table = Table::new(bytes);
-    match start::searched(q, &mut table) {
-        Ok(g) => hand_over(&table, g, plan),
-        Err(reason) => Err(Refusal::new(reason, 0)),
-    }
+    let goal = start::searched(q, &mut table).map_err(|reason| Refusal::new(reason, 0))?;
+    hand_over(&table, goal, plan)
 }

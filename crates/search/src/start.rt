@@ -1,5 +1,5 @@
 // The start of the search: the start node in slot 0, if it is reached and there is a slot. It is reached if no constraint is dead there and it has an
-// estimate.
+// estimate. `Starts` is about the query, the table, the node and its estimate, and no one value holds them.
 ghost use Rattle.std.specs.Prelude.{◌≡◌, []};
 ghost use Rattle.astar.specs.Search.{search_in};
 ghost use Rattle.held.specs.Held.{sys};
@@ -12,7 +12,7 @@ use progression::Work;
 use table::{Slot, Table};
 use task::Key;
 
-// Writes the start node, which has no parent, to slot 0.
+// Writes the start node to slot 0. It has no parent; its steps are 0, so that none is followed.
 fn begin(work: &mut Work, t: &mut Table, node: [u64; NODE], estimate: u64)
     requires { Starts work.old node estimate t.old }
     ensures { Begun work.old.bytes node estimate t.old t.new × (work.new ≡ work.old) }
@@ -22,8 +22,7 @@ fn begin(work: &mut Work, t: &mut Table, node: [u64; NODE], estimate: u64)
     t.push(Slot {
         node,
         hints,
-        cost: Key::ZERO.cost,
-        steps: Key::ZERO.steps,
+        key: Key::ZERO,
         estimate,
         parent: 0,
         action: 0,
@@ -41,8 +40,8 @@ fn from_start(work: &mut Work, t: &mut Table, node: [u64; NODE], estimate: u64) 
     turns::run(work, t)
 }
 
-// The same in a workspace of its own, which has a memo where that pays. The read-through has such a function, too: one for both would be lent a closure
-// over a workspace, which is no plainer.
+// The same in a workspace of its own, which has a memo where that pays. The read-through has such a function, too. One for both would be lent what is done
+// in the workspace as a closure, and a contract says nothing of what this one would borrow and change: the table.
 fn in_workspace(q: &Query, t: &mut Table, node: [u64; NODE], estimate: u64) -> Ended
     requires { Starts q.now node estimate t.old }
     ensures { EndsAs t.new result (search_in (sys q.now) t.old.room) }
@@ -59,12 +58,8 @@ pub fn searched(q: &Query, t: &mut Table) -> Ended
     requires { t.old.slots ≡ [] }
     ensures { EndsAs t.new result (search_in (sys q.now) t.old.room) }
 {
-    let Some(node) = nodes::start(q.job()) else {
-        return Err(Reason::NoPlan);
-    };
-    let Some(left) = nodes::estimate_of(q, node) else {
-        return Err(Reason::NoPlan);
-    };
+    let node = nodes::start(q.job()).ok_or(Reason::NoPlan)?;
+    let left = nodes::estimate_of(q, node).ok_or(Reason::NoPlan)?;
     if t.room() == 0 {
         return Err(Reason::TableTooSmall);
     }

@@ -1,8 +1,10 @@
 -- Laws of words and rows in bytes: what is read after a write.
-use Rattle.std.proofs.Common.{◌≡◌, refl, sym, ◌∙◌, ◌≢◌, ⊎_elim, List, [], ◌∷◌, ◌++◌, ℕ, zero, suc, ◌+◌, ◌*◌, ◌-◌, ◌^◌, ◌≤◌, ◌<◌, not-suc-le-zero}
-use Rattle.std.proofs.Common.{le_of_suc-le-suc, eq-or-lt_of_le, add-one, arith, length, get_or, set, drop, drop-set-lt, drop-cons, ext_get_or}
+use Rattle.std.proofs.Common.{◌≡◌, refl, sym, ◌∙◌, ◌≢◌, ⊎_elim, List, [], ◌∷◌, ℕ, zero, suc, ◌+◌, ◌*◌, ◌-◌, ◌^◌, ◌≤◌, ◌<◌, not-suc-le-zero}
+use Rattle.std.proofs.Common.{le_of_suc-le-suc, eq-or-lt_of_le, add-one, arith, length, get_or, set, drop, drop-set-lt, ext_get_or, subst}
 use Rattle.std.proofs.Math.Decide.{dec_lt}
-use lib.Seq.{sets, length-sets, drop-set-add, set_at, append_snoc}
+use Rattle.std.specs.Array.{IsFromFnResult, IsFromFnResultFrom}
+use denote.Param.Members.{Mut, Called}
+use lib.Seq.{sets, length-sets, drop-set-add}
 use Rattle.model.specs.Bits.{number, number_at}
 use Rattle.model.specs.job.Job.{list_of}
 use Rattle.model.specs.calls.Search.{slot_bytes}
@@ -25,12 +27,20 @@ list_of_elements a n e =
     ext_get_or 0 (list_of (λ j. get_or a j 0) n) a (length-list_of (λ j. get_or a j 0) n ∙ sym e)
     (λ i l. get_or-list_of (λ j. get_or a j 0) n i 0 (omega (arith, length-list_of (λ j. get_or a j 0) n)))
 
--- One more element stored after the first j, over the zeros of a new array.
-pub list_of_more : (f : ℕ → ℕ) (z a : List ℕ) (j v : ℕ) → a ≡ list_of f j ++ drop j z → v ≡ f j → j < length z → set a j v ≡ list_of f (j + 1) ++ drop (j + 1) z
-unfolding list_of
-list_of_more f z a j v e q h =
-    rw (e, q, add-one, drop-cons z j 0)
-    (set_at (list_of f j) (get_or z j 0) (drop (suc j) z) (f j) j (length-list_of f j) ∙ sym (append_snoc (list_of f j) (f j) (drop (suc j) z)))
+-- What `array::from_fn` makes by a closure that calls leave as it was: the list of what these give.
+module _ {F : Type 0} {g : Mut F (ℕ × Unit {0}) ℕ} (f : F) (v : ℕ → ℕ) (still : (j b : ℕ) (q : F) → Called g f (j, tt) b q → (q ≡ f) × (b ≡ v j))
+    (ys : List ℕ) where
+  each_given : (i n : ℕ) → IsFromFnResultFrom g f ys i n → (k : ℕ) → i ≤ k → k < i + n → get_or ys k 0 ≡ v k
+  each_given i zero e k a b = absurd (omega arith)
+  each_given i (suc n) (q, y, z, c, r) k a b =
+      let s = still i y q c in
+      ⊎_elim (λ d. rw (← d) (z.1 0 ∙ s.1))
+      (λ l. each_given (i + 1) n (subst (λ p. IsFromFnResultFrom g p ys (i + 1) n) s.0 r) k (omega arith) (omega arith)) (eq-or-lt_of_le a)
+
+  pub list_given : (n : ℕ) → IsFromFnResult g f ys n → ys ≡ list_of v n
+  list_given n d =
+      ext_get_or 0 ys (list_of v n) (d.long ∙ sym (length-list_of v n))
+      (λ i l. each_given 0 n d.each i (omega arith) (omega (arith, d.long)) ∙ sym (get_or-list_of v n i 0 (omega (arith, d.long))))
 
 -- ---- a number in bytes, and a byte written beside it
 

@@ -1,6 +1,9 @@
 -- Laws of lookups in a list of slots, from its elements; and that what is found is in the list.
-use Rattle.std.proofs.Common.{Option, None, Some, IfSome, ap, zero-add, ◌≡◌, sym, ◌∙◌, Bool, true, false, List, [], ◌∷◌, ℕ, suc, ◌+◌, ◌*◌, ◌≤◌, ◌<◌, add-one}
-use Rattle.std.proofs.Common.{arith, length, get_or, take, drop, drop_of_length-le, drop-cons, get_or-take, length-take-le, eq-eqb, ne_eqb}
+use Rattle.std.proofs.Common.{Option, None, Some, IfSome, MatchOption, ap, zero-add, ◌≡◌, refl, sym, ◌∙◌, Bool, true, false, List, [], ◌∷◌}
+use Rattle.std.proofs.Common.{ℕ, zero, suc, ◌+◌, ◌*◌, ◌≤◌, ◌<◌, arith, length, get_or, take, drop, drop_of_length-le, drop-cons, get_or-take}
+use Rattle.std.proofs.Common.{length-take-le, eqb, ap₂}
+use Rattle.std.specs.List.{list_all, range_with_len}
+use mathlib.Core.Bool.{◌&&◌}
 use Rattle.model.specs.logic.Formula.{choose}
 use Rattle.model.specs.exploration.Key.{Key, less}
 use Rattle.model.specs.search.Node.{same_numbers, node_words}
@@ -10,44 +13,34 @@ use Rattle.task.specs.Meaning.{key_is}
 use Rattle.table.specs.declared.Slot.{Slot}
 use Rattle.table.specs.declared.lookup.Candidate.{Candidate}
 use Rattle.table.specs.Cells.{word, row_words}
-use Rattle.table.specs.Slots.{slots, slot_at, no_slot}
+use Rattle.table.specs.Slots.{slots, slot_at, slot_in, no_slot}
 use Rattle.table.specs.Lookup.{find_in, rank_at, candidate, better, least_in, slot_of_best}
 use Rattle.table.proofs.SlotLaws.{length-slots, length-node, node_word}
 
--- ---- two lists of numbers, compared from the front
+-- ---- the node of slot i against a, word by word
 
--- Where their elements at j agree, what decides is after them; where these differ, the lists do; lists that end there are the same.
-pub same_on : (a b : List ℕ) (j : ℕ) → get_or a j 0 ≡ get_or b j 0 → j < length a → j < length b
-    → same_numbers (drop j a) (drop j b) ≡ same_numbers (drop (j + 1) a) (drop (j + 1) b)
+both : (b c : Bool) → (b && c) ≡ elim b [ true ↦ c | false ↦ false ]
+both true c = refl
+both false c = refl
+
+-- Two lists of one length are the same exactly if their elements at all the numbers from k on are.
+same_numbered : (f : ℕ → Bool) (a b : List ℕ) (k : ℕ) → length a ≡ length b → ((j : ℕ) → j < length a → f (k + j) ≡ eqb (get_or a j 0) (get_or b j 0))
+    → list_all f (range_with_len k (length a)) ≡ same_numbers a b
 unfolding same_numbers
-same_on a b j e ha hb = rw (add-one j, drop-cons a j 0 ha, drop-cons b j 0 hb, eq-eqb (get_or a j 0) (get_or b j 0) e, same_numbers)
+same_numbered f [] [] k e h = refl
+same_numbered f [] (y ∷ ys) k e h = absurd (omega arith)
+same_numbered f (x ∷ xs) [] k e h = absurd (omega arith)
+same_numbered f (x ∷ xs) (y ∷ ys) k e h =
+    let z : k + 0 ≡ k = omega arith in
+    let r = same_numbered f xs ys (k + 1) (omega arith) (λ j l. let q : k + 1 + j ≡ k + suc j = omega arith in rw q (h (suc j) (omega arith))) in
+    ap₂ (λ (b c : Bool). b && c) (rw z at (h 0 (omega arith))) r ∙ both (eqb x y) (same_numbers xs ys)
 
-pub same_not : (a b : List ℕ) (j : ℕ) → (get_or a j 0 ≡ get_or b j 0 → ⊥) → j < length a → j < length b → same_numbers (drop j a) (drop j b) ≡ false
-unfolding same_numbers
-same_not a b j e ha hb = rw (drop-cons a j 0 ha, drop-cons b j 0 hb, ne_eqb (get_or a j 0) (get_or b j 0) e, same_numbers)
-
-pub same_end : (a b : List ℕ) (j : ℕ) → length a ≤ j → length b ≤ j → same_numbers (drop j a) (drop j b) ≡ true
-unfolding same_numbers
-same_end a b j ha hb = rw (drop_of_length-le a ha, drop_of_length-le b hb)
-
--- ---- the node of slot i against a, word by word; the first j agree
-
-module _ (l a : List ℕ) (i : ℕ) (h : i * slot_bytes + slot_bytes ≤ length l) (e : length a ≡ node_words) where
-  abbrev Same : ℕ → Type 0
-  Same j = same_numbers a (slot_at l i).node ≡ same_numbers (drop j a) (drop j (slot_at l i).node)
-
-  pub node_on : (j w : ℕ) → Same j → w ≡ word l (i * row_words + j) → get_or a j 0 ≡ w → j < node_words → Same (j + 1)
-  node_on j w s q d g =
-      s ∙ same_on a (slot_at l i).node j (d ∙ q ∙ sym (node_word l i j g h)) (omega arith) (omega (arith, length-node l i h))
-
-  pub node_not : (j w : ℕ) → Same j → w ≡ word l (i * row_words + j) → (get_or a j 0 ≡ w → ⊥) → j < node_words → false ≡ same_numbers a (slot_at l i).node
-  node_not j w s q d g =
-      sym
-      (s
-      ∙ same_not a (slot_at l i).node j (λ x. d (x ∙ node_word l i j g h ∙ sym q)) (omega arith) (omega (arith, length-node l i h)))
-
-  pub node_end : (j : ℕ) → Same j → j ≡ node_words → true ≡ same_numbers a (slot_at l i).node
-  node_end j s d = sym (s ∙ same_end a (slot_at l i).node j (omega arith) (omega (arith, length-node l i h)))
+pub node_same : (l a : List ℕ) (i : ℕ) → i * slot_bytes + slot_bytes ≤ length l → length a ≡ node_words
+    → list_all (λ j. eqb (get_or a j 0) (word l (i * row_words + j))) (range_with_len 0 node_words) ≡ same_numbers a (slot_at l i).node
+node_same l a i h e =
+    rw e at
+    (same_numbered (λ j. eqb (get_or a j 0) (word l (i * row_words + j))) a (slot_at l i).node 0 (e ∙ sym (length-node l i h))
+    (λ j g. rw (zero-add j) (ap (eqb (get_or a j 0)) (sym (node_word l i j (omega (arith, e)) h)))))
 
 -- ---- the first n slots: how many, and which
 
@@ -57,23 +50,34 @@ length-first l n h = length-take-le n (slots l) (omega (arith, length-slots l))
 pub first_at : (l : List ℕ) (n i : ℕ) → i < n → get_or (take n (slots l)) i no_slot ≡ slot_at l i
 first_at l n i g = get_or-take n (slots l) i no_slot g
 
--- ---- the slot of a node; the first i slots are others
+-- ---- the first slot of a node
 
-module _ (a : List ℕ) (ss : List Slot) (i : ℕ) where
-  abbrev Rest : ℕ → Type 0
-  Rest k = find_in a ss 0 ≡ find_in a (drop k ss) k
+module _ (a : List ℕ) where
+  abbrev pub Here : List Slot → ℕ → Type 0
+  Here ss i = true ≡ same_numbers a (slot_in ss i).node
 
-  pub find_here : (s : Slot) → Rest i → get_or ss i no_slot ≡ s → true ≡ same_numbers a s.node → i < length ss → Some i ≡ find_in a ss 0
+  abbrev pub Other : List Slot → ℕ → Type 0
+  Other ss i = false ≡ same_numbers a (slot_in ss i).node
+
+  find_none : (ss : List Slot) (k : ℕ) → ((j : ℕ) → 0 ≤ j → j < length ss → Other ss j) → None ≡ find_in a ss k
   unfolding find_in
-  find_here s r e q g = sym (r ∙ rw (drop-cons ss i no_slot g, e, ← q, find_in))
+  find_none [] k h = refl
+  find_none (s ∷ ss) k h = rw (find_in, ← h 0 (omega arith) (omega arith)) (find_none ss (suc k) (λ j z l. h (suc j) (omega arith) (omega arith)))
 
-  pub find_on : (s : Slot) → Rest i → get_or ss i no_slot ≡ s → false ≡ same_numbers a s.node → i < length ss → Rest (i + 1)
+  find_some : (ss : List Slot) (k i : ℕ) → i < length ss → Here ss i → ((j : ℕ) → 0 ≤ j → j < i → Other ss j) → Some (k + i) ≡ find_in a ss k
   unfolding find_in
-  find_on s r e q g = r ∙ rw (add-one i, drop-cons ss i no_slot g, e, ← q, find_in)
+  find_some [] k i l y h = absurd (omega arith)
+  find_some (s ∷ ss) k zero l y h = let e : k + 0 ≡ k = omega arith in rw (find_in, ← y) (ap Some e)
+  find_some (s ∷ ss) k (suc i) l y h =
+      let e : k + suc i ≡ suc k + i = omega arith in
+      rw (find_in, ← h 0 (omega arith) (omega arith)) (ap Some e ∙ find_some ss (suc k) i (omega arith) y (λ j z m. h (suc j) (omega arith) (omega arith)))
 
-  pub find_end : Rest i → length ss ≤ i → None ≡ find_in a ss 0
-  unfolding find_in
-  find_end r g = sym (r ∙ rw (drop_of_length-le ss g))
+  -- The first of the slots' numbers at which the node is, if it is at one, is what is looked up.
+  pub find_first : (ss : List Slot) (n : ℕ) (r : Option ℕ) → length ss ≡ n
+      → MatchOption r ((k : ℕ) → 0 ≤ k → k < n → Other ss k) (λ i. (0 ≤ i) × (i < n) × Here ss i × ((k : ℕ) → 0 ≤ k → k < i → Other ss k))
+      → r ≡ find_in a ss 0
+  find_first ss n None e h = find_none ss 0 (λ j z l. h j z (omega arith))
+  find_first ss n (Some i) e h = let z : 0 + i ≡ i = omega arith in ap Some (sym z) ∙ find_some ss 0 i (omega arith) h.2 h.3
 
 -- ---- the better of two
 
@@ -118,18 +122,6 @@ module _ (ss : List Slot) where
 abbrev Below : ℕ → Option ℕ → Type 0
 Below n f = IfSome f (λ i. i < n)
 
-find_below : (a : List ℕ) (ss : List Slot) (k : ℕ) → Below (k + length ss) (find_in a ss k)
-unfolding find_in
-find_below a [] k = tt
-find_below a (s ∷ ss) k = go (same_numbers a s.node) (rw e at (find_below a ss (suc k)))
-  where
-    e : suc k + length ss ≡ k + suc (length ss)
-    e = omega arith
-
-    go : (b : Bool) → Below (k + suc (length ss)) (find_in a ss (suc k)) → Below (k + suc (length ss)) (elim b [ true ↦ Some k | false ↦ find_in a ss (suc k) ])
-    go true h = omega arith
-    go false h = h
-
 better_below : (s : Slot) (k n : ℕ) (b : Option Candidate) → k < n → Below n (slot_of_best b) → Below n (slot_of_best (better s k b))
 unfolding better slot_of_best
 better_below s k n None g h = go s.taken
@@ -151,10 +143,6 @@ least_below (s ∷ ss) k =
     let e : suc k + length ss ≡ k + suc (length ss) = omega arith in
     better_below s k (k + suc (length ss)) (least_in ss (suc k)) (omega arith) (rw e at (least_below ss (suc k)))
 
--- What `find` and `least` answer is a slot of the list.
-module _ (ss : List Slot) (f : Option ℕ) (i : ℕ) (q : f ≡ Some i) where
-  pub find_inside : (a : List ℕ) → f ≡ find_in a ss 0 → i < length ss
-  find_inside a e = rw (zero-add, ← e, q) at (find_below a ss 0)
-
-  pub least_inside : f ≡ slot_of_best (least_in ss 0) → i < length ss
-  least_inside e = rw (zero-add, ← e, q) at (least_below ss 0)
+-- What `least` answers is a slot of the list.
+pub least_inside : (ss : List Slot) (f : Option ℕ) (i : ℕ) → f ≡ Some i → f ≡ slot_of_best (least_in ss 0) → i < length ss
+least_inside ss f i q e = rw (zero-add, ← e, q) at (least_below ss 0)

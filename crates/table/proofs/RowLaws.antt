@@ -5,7 +5,7 @@ use Rattle.model.specs.Bits.{digit}
 use Rattle.model.specs.job.Job.{list_of}
 use Rattle.model.specs.search.Node.{node_words}
 use Rattle.table.specs.declared.Slot.{Slot}
-use Rattle.table.specs.Slots.{slot_of, row_of, key_word, flag_word, taken_slot, Narrow}
+use Rattle.table.specs.Slots.{slot_of, row_of, action_in, goal_in, key_word, flag_word, taken_slot, Narrow}
 use Rattle.table.specs.Cells.{row_words}
 use Rattle.table.proofs.CellLaws.{list_of_elements, list_of_same}
 
@@ -47,29 +47,20 @@ key_steps c s p h g = let e : key_word c s p / 4294967296 ≡ s + p * 65536 = om
 key_parent : (c s p : ℕ) → c < 4294967296 → s < 65536 → p < 65536 → key_word c s p / 281474976710656 % 65536 ≡ p
 key_parent c s p h g f = let e : key_word c s p / 281474976710656 ≡ p = omega arith in rw e (omega arith)
 
--- ---- word 18 marked
-
 -- the word 18 of a slot that is taken now
-abbrev pub mark_word : ℕ → ℕ
-mark_word w = w % 256 + 256 + w / 512 % 2 * 512
-
--- It says taken, and leaves the goal bit.
-mark_taken : (w : ℕ) → eqb (mark_word w / 256 % 2) 1 ≡ true
-mark_taken w = let e : mark_word w / 256 ≡ 1 + w / 512 % 2 * 2 = omega arith in let d : mark_word w / 256 % 2 ≡ 1 = rw e (omega arith) in rw d
-
-mark_goal : (w : ℕ) → mark_word w / 512 % 2 ≡ w / 512 % 2
-mark_goal w = let e : mark_word w / 512 ≡ w / 512 % 2 = omega arith in rw e (omega arith)
+abbrev pub flag_marked : ℕ → ℕ
+flag_marked w = flag_word (action_in w) true (goal_in w)
 
 -- ---- whole rows
 
 -- A slot's row gives the slot again.
-pub slot_again : (s : Slot) (r : List ℕ) (k f : ℕ) → r ≡ row_of s.node s.hints k f s.estimate → k ≡ key_word s.cost s.steps s.parent
+pub slot_again : (s : Slot) (r : List ℕ) (k f : ℕ) → r ≡ row_of s.node s.hints k f s.estimate → k ≡ key_word s.key.cost s.key.steps s.parent
     → f ≡ flag_word s.action s.taken s.goal → length s.node ≡ node_words → length s.hints ≡ 8 → Narrow s → slot_of r ≡ s
 unfolding slot_of row_of list_of
 slot_again s r k f q ek ef en eh w =
-    let ec : key_word s.cost s.steps s.parent % 4294967296 ≡ s.cost = omega (arith, w.cost) in
-    let es = key_steps s.cost s.steps s.parent w.cost w.steps in
-    let ep = key_parent s.cost s.steps s.parent w.cost w.steps w.parent in
+    let ec : key_word s.key.cost s.key.steps s.parent % 4294967296 ≡ s.key.cost = omega (arith, w.cost) in
+    let es = key_steps s.key.cost s.key.steps s.parent w.cost w.steps in
+    let ep = key_parent s.key.cost s.key.steps s.parent w.cost w.steps w.parent in
     let ea = flag_action s.action s.taken s.goal w.action in
     let et = flag_taken s.action s.taken s.goal w.action in
     let eg = flag_goal s.action s.taken s.goal w.action in
@@ -77,11 +68,21 @@ slot_again s r k f q ek ef en eh w =
     rw (q, ek, ef) (rw (list_of_elements s.node node_words en, list_of_elements s.hints 8 eh, ec, es, ee, ep, ea, et, eg))
 
 -- A row whose word 18 alone is changed so is that of the slot, taken.
-pub slot_marked : (l t : List ℕ) → ((j : ℕ) → j < row_words → j ≢ 18 → get_or t j 0 ≡ get_or l j 0) → get_or t 18 0 ≡ mark_word (get_or l 18 0)
+pub slot_marked : (l t : List ℕ) → ((j : ℕ) → j < row_words → j ≢ 18 → get_or t j 0 ≡ get_or l j 0) → get_or t 18 0 ≡ flag_marked (get_or l 18 0)
     → slot_of t ≡ taken_slot (slot_of l)
 unfolding slot_of taken_slot
 slot_marked l t h e =
-    let a : mark_word (get_or l 18 0) % 256 ≡ get_or l 18 0 % 256 = omega arith in
+    let w : ℕ = get_or l 18 0 in
+    let low : action_in w < 256 = omega arith in
     let n = list_of_same (λ j. get_or t j 0) (λ j. get_or l j 0) node_words (λ j g. h j (omega arith) (omega arith)) in
     let k = list_of_same (λ j. get_or t (node_words + j) 0) (λ j. get_or l (node_words + j) 0) 8 (λ j g. h (node_words + j) (omega arith) (omega arith)) in
-    rw (n, k, h 17 (omega arith) (omega arith), h 19 (omega arith) (omega arith), e, a, mark_taken (get_or l 18 0), mark_goal (get_or l 18 0))
+    rw (
+      n,
+      k,
+      h 17 (omega arith) (omega arith),
+      h 19 (omega arith) (omega arith),
+      e,
+      flag_action (action_in w) true (goal_in w) low,
+      flag_taken (action_in w) true (goal_in w) low,
+      flag_goal (action_in w) true (goal_in w) low,
+    )

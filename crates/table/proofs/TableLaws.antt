@@ -1,23 +1,17 @@
 -- Laws of a table as the list of its slots in use: where they stand in the bytes, and how a slot that is stored changes them.
-use Rattle.std.proofs.Common.{◌≡◌, refl, ◌∙◌, ap, sym, Bool, true, false, ℕ, ◌+◌, ◌*◌, ◌/◌, ◌≤◌, ◌<◌, List, length, set, take, leb, leb-false, arith}
+use Rattle.std.proofs.Common.{◌≡◌, refl, ◌∙◌, ap, sym, ℕ, ◌+◌, ◌*◌, ◌≤◌, ◌<◌, List, length, set, take, arith}
 use Rattle.std.proofs.lemmas.List.{take_more_set}
 use Rattle.std.proofs.Math.Seq.{take-set-lt}
 use Rattle.model.specs.calls.Search.{slots_in, slot_bytes}
-use Rattle.model.specs.logic.Formula.{choose}
 use Rattle.table.specs.declared.Slot.{Slot}
 use Rattle.table.specs.Slots.{slots, slot_at, slot_in, taken_slot}
 use Rattle.table.specs.Tables.{Table, table, table_in, pushed, stored, marked, Within}
-use Rattle.table.proofs.SlotLaws.{slot_inside}
+use Rattle.table.proofs.SlotLaws.{slots_counted, slot_inside}
 use Rattle.table.proofs.LookupLaws.{length-first, first_at}
 
 -- No more slots are counted than the bytes have room for.
 slots_in_bytes : (bytes : List ℕ) → slots_in bytes * slot_bytes ≤ length bytes
-unfolding slots_in
-slots_in_bytes bytes = go (leb (length bytes / slot_bytes) 65536) refl
-  where
-    go : (b : Bool) → leb (length bytes / slot_bytes) 65536 ≡ b → choose b (length bytes / slot_bytes) 65536 * slot_bytes ≤ length bytes
-    go true e = omega arith
-    go false e = omega (arith, leb-false (length bytes / slot_bytes) 65536 e)
+slots_in_bytes bytes = let e = slots_counted bytes _ refl in omega arith
 
 slots_in_same : (u bytes : List ℕ) → length u ≡ length bytes → slots_in u ≡ slots_in bytes
 unfolding slots_in
@@ -70,5 +64,6 @@ module _ {n k : ℕ} {bytes : List ℕ} (w : Within n k bytes) where
       pushed_is s u e =
           ap (table n) (ap (take (k + 1)) e ∙ take_more_set (slots bytes) k s (slot_inside bytes k next_room)) ∙ ap (λ (x : Table). pushed x s) v
 
--- What the methods' goals need, found without an answer.
+-- What the methods' goals need, found without an answer. `within_still` is not among them: with it the search for the invariant after `mark` and `store`
+-- came to its limit, also where the law takes the parts of `Within`.
 pub ruleset in_table = (length_is, room_is, slot_room, slot_is, stored_is, marked_is, next_room, within_more, pushed_is)

@@ -17,11 +17,11 @@ key_of c s = record { cost = c; steps = s }
 
 -- the rank of a slot: cost plus estimate, then steps
 abbrev pub rank_at : Slot → Key
-rank_at s = key_of (s.cost + s.estimate) s.steps
+rank_at s = key_of (s.key.cost + s.estimate) s.key.steps
 
 -- slot k with its rank
 abbrev pub candidate : Slot → ℕ → Candidate
-candidate s k = record { slot = k; rank = record { cost = s.cost + s.estimate; steps = s.steps } }
+candidate s k = record { slot = k; rank = record { cost = s.key.cost + s.estimate; steps = s.key.steps } }
 
 -- the better of slot k and the best of those after it: slot k, unless it was taken or that one has a lesser rank
 unfoldable pub better : Slot → ℕ → Option Candidate → Option Candidate

@@ -4,16 +4,37 @@ use Rattle.model.specs.Bits.{digit}
 use Rattle.model.specs.job.Job.{list_of}
 use Rattle.model.specs.calls.Search.{slot_bytes}
 use Rattle.model.specs.search.Node.{node_words}
+use Rattle.task.specs.declared.Key.{Key}
 use Rattle.table.specs.declared.Slot.{Slot}
 use Rattle.table.specs.Cells.{row}
 
 -- A slot's numbers are within their widths.
 pub record Narrow (s : Slot) : Type 0 where
-  pub cost : s.cost < 4294967296
-  pub steps : s.steps < 65536
+  pub cost : s.key.cost < 4294967296
+  pub steps : s.key.steps < 65536
   pub estimate : s.estimate < 1073741824
   pub parent : s.parent < 65536
   pub action : s.action < 256
+
+-- ---- what the words 17 to 19 of a row say
+
+abbrev pub key_in : ℕ → Key
+key_in w = record { cost = w % 4294967296; steps = w / 4294967296 % 65536 }
+
+abbrev pub parent_in : ℕ → ℕ
+parent_in w = w / 281474976710656 % 65536
+
+abbrev pub action_in : ℕ → ℕ
+action_in w = w % 256
+
+abbrev pub taken_in : ℕ → Bool
+taken_in w = eqb (w / 256 % 2) 1
+
+abbrev pub goal_in : ℕ → Bool
+goal_in w = eqb (w / 512 % 2) 1
+
+abbrev pub estimate_in : ℕ → ℕ
+estimate_in w = w % 1073741824
 
 -- the slot of a row
 unfoldable pub slot_of : List ℕ → Slot
@@ -21,13 +42,12 @@ unfolding list_of
 slot_of a = record {
   node = list_of (λ j. get_or a j 0) node_words;
   hints = list_of (λ j. get_or a (node_words + j) 0) 8;
-  cost = get_or a 17 0 % 4294967296;
-  steps = get_or a 17 0 / 4294967296 % 65536;
-  estimate = get_or a 19 0 % 1073741824;
-  parent = get_or a 17 0 / 281474976710656 % 65536;
-  action = get_or a 18 0 % 256;
-  taken = eqb (get_or a 18 0 / 256 % 2) 1;
-  goal = eqb (get_or a 18 0 / 512 % 2) 1;
+  key = key_in (get_or a 17 0);
+  estimate = estimate_in (get_or a 19 0);
+  parent = parent_in (get_or a 17 0);
+  action = action_in (get_or a 18 0);
+  taken = taken_in (get_or a 18 0);
+  goal = goal_in (get_or a 18 0);
 }
 
 abbrev pub key_word : ℕ → ℕ → ℕ → ℕ
@@ -50,8 +70,7 @@ unfoldable pub no_slot : Slot
 no_slot = record {
   node = replicate node_words 0;
   hints = replicate 8 0;
-  cost = 0;
-  steps = 0;
+  key = record { cost = 0; steps = 0 };
   estimate = 0;
   parent = 0;
   action = 0;
@@ -72,8 +91,7 @@ unfoldable pub taken_slot : Slot → Slot
 taken_slot s = record {
   node = s.node;
   hints = s.hints;
-  cost = s.cost;
-  steps = s.steps;
+  key = s.key;
   estimate = s.estimate;
   parent = s.parent;
   action = s.action;

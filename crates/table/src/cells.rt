@@ -5,6 +5,8 @@ ghost use Rattle.std.specs.Prelude.{◌≡◌, ◌+◌, ◌*◌, ◌^◌, ◌≤
 ghost use Rattle.model.specs.calls.Search.{slot_bytes};
 ghost use Rattle.table.specs.Cells.{word, with_word, row, RowSet};
 
+use std::array;
+
 // The bytes of a slot, which is a row.
 pub const SLOT: usize = 160;
 
@@ -32,14 +34,10 @@ pub fn get_row(t: &[u8], i: usize) -> [u64; ROW]
     requires { i * slot_bytes + slot_bytes ≤ length t.now }
     ensures { result ≡ row t.now i }
 {
-    let mut a = [0; ROW];
-    for j in 0..ROW {
-        a[j] = get(t, i * ROW + j);
-    }
-    a
+    array::from_fn(|j| get(t, i * ROW + j))
 }
 
-// Writes the words of row i.
+// Writes the words of row i. The index is also the word's place in the row.
 pub fn put_row(t: &mut [u8], i: usize, a: [u64; ROW])
     requires { i * slot_bytes + slot_bytes ≤ length t.old }
     ensures { RowSet t.old t.new i a }

@@ -3,7 +3,6 @@
 
 ghost use Rattle.std.specs.Prelude.{◌≡◌, [], ◌≤◌, ◌<◌, length};
 ghost use Rattle.model.specs.calls.Search.{slots_in};
-ghost use Rattle.task.specs.Meaning.{key_is};
 
 use model::NODE;
 use std::marker::Model;
@@ -12,18 +11,19 @@ use task::Key;
 mod cells; // cells.rt: words of 64 bits, and rows of them
 mod rows; // rows.rt: a slot as a row
 pub mod slots; // slots.rt: whole slots and their parts, in bytes
-pub mod lookup; // lookup.rt: the slot of a node, and the open slot of the least rank, in bytes
+mod lookup; // lookup.rt: the slot of a node, and the open slot of the least rank
 
 pub use slots::clear;
 
 // What a slot holds: a node, the state and then the residual of each constraint; the residuals of the hints; the key of the least path so
 // far; the estimate of the cost that is left; the slot and the action that it came from; whether it was taken, and whether it is a goal.
+// The parent is a number, since memory is fixed and lent, and a slot in bytes cannot hold a reference. That the parts fit their bits (`Narrow`) is asked where
+// a slot is written, and is no invariant: slots are made field by field, and by struct update.
 #[derive(Clone, Copy, Debug, PartialEq, Eq)]
 pub struct Slot {
     pub node: [u64; NODE],
     pub hints: [u64; 8],
-    pub cost: u64,
-    pub steps: u64,
+    pub key: Key,
     pub estimate: u64,
     pub parent: usize,
     pub action: u8,
@@ -32,6 +32,7 @@ pub struct Slot {
 }
 
 // The bytes, how many slots they have room for, and how many are in use. A clause sees the room and the list of the slots in use.
+// That a slot is in use is asked as a slice asks of an index.
 #[derive(Drop)]
 pub struct Table<'a> {
     bytes: &'a mut [u8],
@@ -53,7 +54,6 @@ impl<'a> Model for Table<'a> {
 #[tactic(auto, using(crate::proofs::TableLaws::in_table))]
 impl<'a> Table<'a> {
     ghost use Rattle.table.specs.Slots.{slot_in, Narrow};
-    ghost use Rattle.table.specs.Lookup.{find_in, key_of, rank_at, least_in, slot_of_best};
     ghost use Rattle.table.specs.Tables.{table, pushed, stored, marked};
 
     // A table in lent bytes, whatever they are, with no slot in use.
@@ -118,20 +118,9 @@ impl<'a> Table<'a> {
     // The key of the least path so far to the node of the slot i.
     pub fn key(&self, i: usize) -> Key
         requires { i < length self.now.slots }
-        ensures { (key_is result ≡ key_of (slot_in self.now.slots i).cost (slot_in self.now.slots i).steps) × (result.steps < 65536) }
+        ensures { (result ≡ (slot_in self.now.slots i).key) × (result.steps < 65536) }
     {
-        Key {
-            cost: slots::cost(self.bytes, i),
-            steps: slots::steps(self.bytes, i),
-        }
-    }
-
-    // The rank of the slot i: its cost plus its estimate, then its steps.
-    pub fn rank(&self, i: usize) -> Key
-        requires { i < length self.now.slots }
-        ensures { key_is result ≡ rank_at (slot_in self.now.slots i) }
-    {
-        lookup::rank(self.bytes, i)
+        slots::key(self.bytes, i)
     }
 
     // The slot that the slot i came from.
@@ -164,19 +153,5 @@ impl<'a> Table<'a> {
         ensures { result ≡ (slot_in self.now.slots i).taken }
     {
         slots::is_taken(self.bytes, i)
-    }
-
-    // The first slot that is that of a node.
-    pub fn find(&self, node: [u64; NODE]) -> Option<usize>
-        ensures { result ≡ find_in node self.now.slots 0 }
-    {
-        lookup::find(self.bytes, self.used, node)
-    }
-
-    // The first open slot of the least rank.
-    pub fn least(&self) -> Option<usize>
-        ensures { result ≡ slot_of_best (least_in self.now.slots 0) }
-    {
-        lookup::least(self.bytes, self.used)
     }
 }

@@ -1,20 +1,24 @@
-// Whole slots in bytes and their parts, read and written. A part is read in one line, and has a name, where one function for all would have three numbers.
+// Whole slots in bytes and their parts, read and written. A part is read in one line, and has a name, where one function for all would have
+// a word, a divisor and a modulus.
+// Here a promise is about the bytes, and in `Table` about the list in use: one method for both would be proved against both at once.
+// Each asks only that the bytes of its own slot are there; a type for bytes with such a slot would say no more.
 #![tactic(auto, using(crate::proofs::SlotLaws::in_rows))]
 
 ghost use Rattle.std.specs.Prelude.{◌≡◌, ◌+◌, ◌*◌, ◌≤◌, ◌<◌, length, set, replicate};
 ghost use Rattle.model.specs.calls.Search.{slots_in, slot_bytes};
+ghost use Rattle.model.specs.search.Node.{same_numbers};
 ghost use Rattle.table.specs.Slots.{slots, slot_at, taken_slot, Narrow};
 
 use super::cells::{ROW, SLOT};
-use super::rows::{ESTIMATE, GOAL, PARENT, STEPS, TAKEN};
 use super::{Slot, cells, rows};
+use model::NODE;
+use task::Key;
 
 // How many slots a table has: its whole ones, at most 65,536.
 pub fn capacity(t: &[u8]) -> usize
     ensures { (result ≡ slots_in t.now) × (result * slot_bytes ≤ length t.now) × (result ≤ 65536) }
 {
-    let n = t.len() / SLOT;
-    if n <= 65536 { n } else { 65536 }
+    (t.len() / SLOT).min(65536)
 }
 
 // Makes every byte zero.
@@ -46,23 +50,16 @@ pub fn mark(t: &mut [u8], i: usize)
     ensures { slots t.new ≡ set (slots t.old) i (taken_slot (slot_at t.old i)) }
 {
     let w = cells::get(t, i * ROW + 18);
-    cells::put(t, i * ROW + 18, w % TAKEN + TAKEN + w / GOAL % 2 * GOAL);
+    let flags = rows::flag_word(rows::action_in(w), true, rows::goal_in(w));
+    cells::put(t, i * ROW + 18, flags);
 }
 
-// The cost of the slot i.
-pub fn cost(t: &[u8], i: usize) -> u64
+// The key of the slot i.
+pub fn key(t: &[u8], i: usize) -> Key
     requires { i * slot_bytes + slot_bytes ≤ length t.now }
-    ensures { (result ≡ (slot_at t.now i).cost) × (result < 4294967296) }
+    ensures { (result ≡ (slot_at t.now i).key) × (result.cost < 4294967296) × (result.steps < 65536) }
 {
-    cells::get(t, i * ROW + 17) % STEPS
-}
-
-// The steps of the slot i.
-pub fn steps(t: &[u8], i: usize) -> u64
-    requires { i * slot_bytes + slot_bytes ≤ length t.now }
-    ensures { (result ≡ (slot_at t.now i).steps) × (result < 65536) }
-{
-    cells::get(t, i * ROW + 17) / STEPS % 65536
+    rows::key_in(cells::get(t, i * ROW + 17))
 }
 
 // The estimate of the slot i.
@@ -70,7 +67,7 @@ pub fn estimate(t: &[u8], i: usize) -> u64
     requires { i * slot_bytes + slot_bytes ≤ length t.now }
     ensures { (result ≡ (slot_at t.now i).estimate) × (result < 1073741824) }
 {
-    cells::get(t, i * ROW + 19) % ESTIMATE
+    rows::estimate_in(cells::get(t, i * ROW + 19))
 }
 
 // The parent of the slot i.
@@ -78,7 +75,7 @@ pub fn parent(t: &[u8], i: usize) -> usize
     requires { i * slot_bytes + slot_bytes ≤ length t.now }
     ensures { (result ≡ (slot_at t.now i).parent) × (result < 65536) }
 {
-    (cells::get(t, i * ROW + 17) / PARENT % 65536) as usize
+    rows::parent_in(cells::get(t, i * ROW + 17))
 }
 
 // The action of the slot i.
@@ -86,7 +83,7 @@ pub fn action(t: &[u8], i: usize) -> u8
     requires { i * slot_bytes + slot_bytes ≤ length t.now }
     ensures { result ≡ (slot_at t.now i).action }
 {
-    (cells::get(t, i * ROW + 18) % TAKEN) as u8
+    rows::action_in(cells::get(t, i * ROW + 18))
 }
 
 // Whether the slot i is a goal.
@@ -94,7 +91,7 @@ pub fn is_goal(t: &[u8], i: usize) -> bool
     requires { i * slot_bytes + slot_bytes ≤ length t.now }
     ensures { result ≡ (slot_at t.now i).goal }
 {
-    cells::get(t, i * ROW + 18) / GOAL % 2 == 1
+    rows::goal_in(cells::get(t, i * ROW + 18))
 }
 
 // Whether the slot i was taken.
@@ -102,5 +99,13 @@ pub fn is_taken(t: &[u8], i: usize) -> bool
     requires { i * slot_bytes + slot_bytes ≤ length t.now }
     ensures { result ≡ (slot_at t.now i).taken }
 {
-    cells::get(t, i * ROW + 18) / TAKEN % 2 == 1
+    rows::taken_in(cells::get(t, i * ROW + 18))
+}
+
+// Whether the slot i is that of a node: an array against words in bytes, which nothing derives.
+pub fn is_node(t: &[u8], i: usize, node: [u64; NODE]) -> bool
+    requires { i * slot_bytes + slot_bytes ≤ length t.now }
+    ensures { result ≡ same_numbers node (slot_at t.now i).node }
+{
+    (0..NODE).all(|j| node[j] == cells::get(t, i * ROW + j))
 }

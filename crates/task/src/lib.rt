@@ -24,20 +24,22 @@ pub struct Action {
 fn without(xs: u64, ys: u64) -> u64
     ensures { result ≡ xs - bit_and xs ys }
 {
-    xs - (xs & ys)
+    xs & !ys
 }
 
-// The facts that are true.
+// The facts that are true. A struct, since methods on a state by value are asked for (docs/DECISIONS.md); where residuals are progressed, the facts are
+// a number.
 #[derive(Clone, Copy, Debug, PartialEq, Eq)]
 pub struct State {
     pub facts: u64,
 }
 
 impl State {
+    #[tactic(auto, unfolding(model::specs::task::State::applicable, model::specs::task::State::apart))]
     pub fn applicable(self, a: Action) -> bool
         ensures { result ≡ applicable (action_is a) self.facts }
     {
-        a.pre & self.facts == a.pre && a.forbidden & self.facts == 0
+        self.has(a.pre) && a.forbidden & self.facts == 0
     }
 
     // Deleted facts go first, so that a fact that is deleted and added is true afterwards.
@@ -49,6 +51,7 @@ impl State {
         }
     }
 
+    #[tactic(auto, unfolding(model::specs::task::State::within))]
     pub fn has(self, goal: u64) -> bool
         ensures { result ≡ within goal self.facts }
     {

@@ -56,11 +56,7 @@ step_checked j p u i w e q =
     let f : w.facts ≡ state_after j j.start (take i p) = ap (λ (x : Walk). x.facts) e ∙ walk_facts j (take i p) in
     rw f at q
 
--- The check of a step's right by the bits that were read, and of its applicability by the test of the action that was read.
-pub right_checked : {x u : ℕ} (a i : ℕ) {v : Verdict} → x ≡ u → v ≡ unless (eqb (x / 2 ^ a % 2) 1) 15 i → v ≡ unless (bit u a) 15 i
-unfolding bit
-right_checked a i e h = rw e at h
-
+-- The check of a step's applicability by the test of the action that was read.
 pub applicable_checked : {x y : Action} (s i : ℕ) {b : Bool} {v : Verdict} → b ≡ applicable x s → x ≡ y → v ≡ unless b 7 i
     → v ≡ unless (applicable y s) 7 i
 applicable_checked s i t e h = rw (t, e) at h

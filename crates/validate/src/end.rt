@@ -5,41 +5,38 @@ ghost use Rattle.model.specs.job.Layout.{constraint_count, hint_count, job_of};
 ghost use Rattle.validate.specs.Walk.{closed_at, bits_from, end_verdict, judged};
 
 use super::walk::Walk;
-use job::{Job, checks};
-use model::{Passed, Reason, Refusal, Verdict};
+use job::Job;
+use model::{Passed, Reason, Refusal, Verdict, unless};
 use task::State;
 
 // The constraints in turn, each by what it has left.
-fn check_constraints(job: &Job, rs: [u64; 8], facts: u64) -> Verdict
-    ensures { result ≡ in_turn (constraint_count job.now) (λ i. unless (closed_at (job_of job.now).constraints rs facts i) 9 i) }
+fn check_constraints(job: &Job, w: &Walk) -> Verdict
+    ensures { result ≡ in_turn (constraint_count job.now) (λ i. unless (closed_at (job_of job.now).constraints w.now.constraints w.now.facts i) 9 i) }
 {
     for i in 0..job.constraint_count() {
-        checks::unless(
-            progression::closes(job, i, rs[i], facts),
-            Reason::RuleNotMet,
-            i,
-        )?;
+        let met = progression::closes(job, i, w.constraints[i], w.facts);
+        unless(met, Reason::RuleNotMet, i)?;
     }
     Ok(())
 }
 
 // The goal, and then the constraints.
-fn check_end(job: &Job, rs: [u64; 8], facts: u64) -> Verdict
-    ensures { result ≡ end_verdict (job_of job.now) rs facts }
+fn check_end(job: &Job, w: &Walk) -> Verdict
+    ensures { result ≡ end_verdict (job_of job.now) w.now.constraints w.now.facts }
 {
-    let state = State { facts };
-    checks::unless(state.has(job.goal()), Reason::GoalMissing, 0)?;
-    check_constraints(job, rs, facts)
+    let state = State { facts: w.facts };
+    unless(state.has(job.goal()), Reason::GoalMissing, 0)?;
+    check_constraints(job, w)
 }
 
 // A bit for each hint, set if the hint is met by what it has left.
-fn hint_bits(job: &Job, rs: [u64; 8], facts: u64) -> u8
-    ensures { result ≡ bits_from (closed_at (job_of job.now).hints rs facts) 0 (hint_count job.now) }
+fn hint_bits(job: &Job, w: &Walk) -> u8
+    ensures { result ≡ bits_from (closed_at (job_of job.now).hints w.now.hints w.now.facts) 0 (hint_count job.now) }
 {
     let from = job.constraint_count();
     let met = bits::set_of(
         job.hint_count(),
-        |i| progression::closes(job, from + i, rs[i], facts),
+        |i| progression::closes(job, from + i, w.hints[i], w.facts),
     );
     met as u8
 }
@@ -48,9 +45,9 @@ fn hint_bits(job: &Job, rs: [u64; 8], facts: u64) -> u8
 pub fn judged(job: &Job, w: Walk) -> Result<Passed, Refusal>
     ensures { result ≡ judged (job_of job.now) w }
 {
-    check_end(job, w.constraints, w.facts)?;
+    check_end(job, &w)?;
     Ok(Passed {
         cost: w.cost,
-        hints: hint_bits(job, w.hints, w.facts),
+        hints: hint_bits(job, &w),
     })
 }

@@ -7,8 +7,8 @@ ghost use Rattle.model.specs.job.Layout.{action_count, job_of};
 ghost use Rattle.model.specs.task.State.{applicable};
 ghost use Rattle.validate.specs.Walk.{started, stepped};
 
-use job::{Job, Query, checks};
-use model::{Reason, Verdict};
+use job::{Job, Query};
+use model::{Reason, Verdict, unless};
 use progression::{Group, Work};
 use task::State;
 
@@ -39,11 +39,11 @@ pub fn check_step(q: &Query, facts: u64, step: u8, i: usize) -> Verdict
     ensures { result ≡ or_else (unless (ltb step (length (job_of q.now.bytes).actions)) 6 i)
         (or_else (unless (bit q.now.usable step) 15 i) (unless (applicable (action_of (job_of q.now.bytes) step) facts) 7 i)) }
 {
-    checks::unless(step < q.job().action_count(), Reason::BadStep, i)?;
-    checks::unless((q.usable() >> step) % 2 == 1, Reason::NoRight, i)?;
+    unless(step < q.job().action_count(), Reason::BadStep, i)?;
+    unless(q.may_use(step), Reason::NoRight, i)?;
     let action = nodes::action_of(q.job(), step);
     let state = State { facts };
-    checks::unless(state.applicable(action), Reason::NotApplicable, i)
+    unless(state.applicable(action), Reason::NotApplicable, i)
 }
 
 // One step further.

@@ -11,21 +11,16 @@ pub fn get<const N: usize>(s: &[u8], at: usize) -> u64
     requires { (at + N ≤ length s.now) × (N ≤ 8) }
     ensures { (result ≡ number_at N s.now at) × (result < 256 ^ N) }
 {
-    let mut x = 0;
-    for i in (0..N).rev() {
-        x = x * 256 + u64::from(s[at + i]);
-    }
-    x
+    let mut bytes = [0; 8];
+    bytes[..N].copy_from_slice(&s[at..at + N]);
+    u64::from_le_bytes(bytes)
 }
 
 // Writes a number of N bytes at an offset, the remainder of a greater one.
+#[tactic(auto, using(crate::proofs::Bytes::written))]
 pub fn put<const N: usize>(t: &mut [u8], at: usize, v: u64)
-    requires { at + N ≤ length t.old }
+    requires { (at + N ≤ length t.old) × (N ≤ 8) }
     ensures { t.new ≡ sets t.old at (digits N v) }
 {
-    let mut rest = v;
-    for i in 0..N {
-        t[at + i] = (rest % 256) as u8;
-        rest /= 256;
-    }
+    t[at..at + N].copy_from_slice(&v.to_le_bytes()[..N]);
 }

@@ -1,16 +1,16 @@
 -- One action more is passed each turn: counted if it is usable, left as it was if it is barred.
-use Rattle.std.proofs.Common.{arith}
-use Rattle.estimate.proofs.PassLaws.{passed_none, passed_usable, passed_barred}
+use Rattle.std.proofs.Common.{arith, sym}
+use Rattle.estimate.proofs.PassLaws.{passed_usable, passed_barred}
 use Rattle.estimate.proofs.pass.Goals as goal
-use Rattle.estimate.proofs.pass.Goals.{then-usable-i-eq1, else-usable-i-eq1}
+use Rattle.estimate.proofs.pass.Goals.{then-counted, else-counted}
 
-pub loop-i-init : goal.loop-i-init
-loop-i-init c = passed_none _ _ _ _
-
-pub loop-i-preserved : goal.loop-i-preserved
-loop-i-preserved c =
-    elim c.if-usable-i-eq1.branch [
-      | then-usable-i-eq1 w ↦ passed_usable _ _ c.loop-i.invariant (omega arith) (omega arith) w.if-usable-i-eq1.true w.ends-is w.end_of-end.ensures.is
-          w.end_of-end.ensures.low w.sooner-best.ensures w.best-is
-      | else-usable-i-eq1 w ↦ passed_barred _ _ c.loop-i.invariant (omega arith) (omega arith) w.if-usable-i-eq1.false c.ranges.built.fits w.ends-is w.best-is
+pub loop-action-preserved : goal.loop-action-preserved
+loop-action-preserved c =
+    let l = rw c.job-job.ensures at c.action_count-action-end.ensures.count in
+    elim c.if-counted.branch [
+      | then-counted w ↦ passed_usable _ _ c.loop-action.invariant (omega arith) (omega arith) (sym w.if-counted.ensures) (rw w.from-i.ensures at w.ends-is)
+          (rw (w.from-i.ensures, c.job-job.ensures) at w.end_of-end.ensures.is) (rw w.from-i.ensures at w.end_of-end.ensures.low)
+          (rw (w.from-i.ensures, c.job-job.ensures) at w.sooner-best.ensures) w.best-is
+      | else-counted w ↦ passed_barred _ _ c.loop-action.invariant (omega arith) (omega arith) (sym w.if-counted.ensures) c.ranges.built.fits w.ends-is
+          w.best-is
     ]

@@ -1,20 +1,20 @@
 -- `expand` follows the actions in order, those alone that are chosen.
-use Rattle.std.proofs.Common.{◌≡◌, refl, sym, ◌∙◌, false, ◌+◌, ◌%◌, ◌<◌, div-one, length, arith}
+use Rattle.std.proofs.Common.{◌≡◌, refl, sym, ◌∙◌, ◌+◌, ◌<◌, length, arith}
+use Rattle.model.specs.Bits.{bit}
 use Rattle.model.specs.job.Job.{action_of}
 use Rattle.model.specs.job.Layout.{action_count, constraint_count}
 use Rattle.model.specs.search.Node.{Node}
 use Rattle.model.specs.task.State.{applicable}
 use Rattle.model.specs.search.Query.{Query, job_for}
 use Rattle.table.specs.Tables.{Table}
-use Rattle.nodes.specs.Meaning.{node_is, Applies, Chooses}
+use Rattle.nodes.specs.Meaning.{node_is}
 use Rattle.held.proofs.JobLaws.{sys_actions}
-use Rattle.expansion.proofs.Choosing as choosing
 use Rattle.expansion.proofs.Turns.{Going, going_start, going_end, going_next, going_full, going_on, going_past}
 use Rattle.expansion.proofs.expand.Goals as goal
-use Rattle.expansion.proofs.expand.Goals.{In-loop-a, then-choices-eq1+in_ok-follow, else-choices-eq1}
+use Rattle.expansion.proofs.expand.Goals.{In-loop-a, then-bit_at+in_ok-follow, else-bit_at}
 
 pub loop-a-init : goal.loop-a-init
-loop-a-init c = record { going = going_start c.requires c.load-from.ensures.0; same_work = refl; left = sym (div-one _) }
+loop-a-init c = record { going = going_start c.requires c.load-from.ensures.0; same_work = refl }
 
 -- ---- an action of the loop
 
@@ -32,15 +32,9 @@ module _ (c : In-loop-a) where
   known : c.loop-a.a < length (job_for job).actions
   known = omega (arith, below, sys_actions job)
 
-  chooses : Chooses (job_for job) node.state c.choices-choices.result
-  chooses = rw c.query.ensures at c.choices-choices.ensures
-
   -- Its bit tells whether it is applicable.
-  applicable_then : c.loop-a.choices % 2 ≡ 1 → Applies (job_for job) node c.loop-a.a
-  applicable_then = choosing.chosen c.choices-choices.result c.loop-a.a c.loop-a.invariant.left (job_for job) node chooses known
-
-  applicable_else : (c.loop-a.choices % 2 ≡ 1 → ⊥) → applicable (action_of (job_for job) c.loop-a.a) node.state ≡ false
-  applicable_else = choosing.unchosen c.choices-choices.result c.loop-a.a c.loop-a.invariant.left (job_for job) node chooses known
+  tells : bit c.choices-choices.result c.loop-a.a ≡ applicable (action_of (job_for job) c.loop-a.a) node.state
+  tells = (rw c.query.ensures at c.choices-choices.ensures) c.loop-a.a known
 
   -- what holds after it
   abbrev After : Query → Table → Type 0
@@ -49,7 +43,7 @@ module _ (c : In-loop-a) where
 pub follow-requires : goal.follow-requires
 follow-requires c =
     let at = (goal.at.follow-requires c).In-loop-a in
-    rw c.loop-a.invariant.same_work (going_next c.loop-a.invariant.going (below at), applicable_then at c.if-choices-eq1.true)
+    rw c.loop-a.invariant.same_work (going_next c.loop-a.invariant.going (below at), sym (tells at) ∙ sym c.bit_at.ensures ∙ c.if-bit_at.true)
 
 pub returns-in_err-follow : goal.returns-in_err-follow
 returns-in_err-follow c = (
@@ -62,12 +56,12 @@ pub loop-a-preserved : goal.loop-a-preserved
 loop-a-preserved c =
     let at = (goal.at.loop-a-preserved c).In-loop-a in
     let g = c.loop-a.invariant in
-    let k : After at c.if-choices-eq1.work c.if-choices-eq1.t = elim c.if-choices-eq1.branch [
-      | then-choices-eq1+in_ok-follow w ↦ rw (w.work-is, w.t-is)
+    let k : After at c.if-bit_at.work c.if-bit_at.t = elim c.if-bit_at.branch [
+      | then-bit_at+in_ok-follow w ↦ rw (w.work-is, w.t-is)
           (going_on g.going (below at) w.in_ok-follow.was (rw g.same_work at w.follow.ensures.0), w.follow.ensures.1 ∙ g.same_work)
-      | else-choices-eq1 w ↦ rw (w.work-is, w.t-is) (going_past g.going (below at) (applicable_else at w.if-choices-eq1.false), g.same_work)
+      | else-bit_at w ↦ rw (w.work-is, w.t-is) (going_past g.going (below at) (sym (tells at) ∙ sym c.bit_at.ensures ∙ w.if-bit_at.false), g.same_work)
     ] in
-    record { going = k.0; same_work = k.1; left = choosing.shifted c.choices-choices.result c.loop-a.a g.left }
+    record { going = k.0; same_work = k.1 }
 
 pub returns : goal.returns
 returns c = (

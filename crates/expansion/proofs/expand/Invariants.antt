@@ -1,5 +1,5 @@
--- The actions below a came to the table at hand, and the choices are those of the others.
-use Rattle.std.proofs.Common.{◌≡◌, ◌/◌, ◌^◌}
+-- The actions below a came to the table at hand.
+use Rattle.std.proofs.Common.{◌≡◌}
 use Rattle.expansion.proofs.Turns.{Going}
 use Rattle.expansion.proofs.expand.Given as goal
 
@@ -8,5 +8,4 @@ invariant-loop-a l =
     record {
       going : Going l.initial.work l.initial.t l.i l.from l.t l.a;
       same_work : l.work ≡ l.initial.work;
-      left : l.choices ≡ l.initial.choices / 2 ^ l.a;
     }

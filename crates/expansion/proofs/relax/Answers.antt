@@ -1,7 +1,6 @@
 -- `relax` goes by whether slot j was taken, and then by how the arrival's key compares with its own.
 use Rattle.std.proofs.Common.{◌≡◌, refl, sym, ◌∙◌}
 use Rattle.model.specs.exploration.Key.{less, same_key}
-use Rattle.task.specs.declared.Key as code
 use Rattle.task.specs.Meaning.{key_is}
 use Rattle.task.proofs.KeyLaws.{lt_is_less, eq_is_same}
 use Rattle.expansion.specs.Arrivals.{key_by, Reaches}
@@ -30,14 +29,11 @@ reached : (c : After-key_of-key) → Reaches (key_by c.args.work.now.bytes c.arg
 reached c = rw c.job.ensures at c.key_of-key.ensures
 
 -- What the two tests tell of the keys.
-abbrev least : (c : After-load-old) → code.Key
-least c = record { cost = c.load-old.result.cost; steps = c.load-old.result.steps }
+is_less : (c : After-lt) → c.lt.result ≡ less (key_is c.key_of-key.result) (key_is c.load-old.result.key)
+is_less c = lt_is_less c.key_of-key.result c.load-old.result.key c.lt.ensures
 
-is_less : (c : After-lt) → c.lt.result ≡ less (key_is c.key_of-key.result) (key_is (least (goal.at.After-lt c).After-load-old))
-is_less c = lt_is_less c.key_of-key.result (least (goal.at.After-lt c).After-load-old) c.lt.ensures
-
-is_same : (c : After-eq) → c.eq.result ≡ same_key (key_is c.key_of-key.result) (key_is (least (goal.at.After-eq c).After-load-old))
-is_same c = eq_is_same c.key_of-key.result (least (goal.at.After-eq c).After-load-old) c.eq.ensures
+is_same : (c : After-eq) → c.eq.result ≡ same_key (key_is c.key_of-key.result) (key_is c.load-old.result.key)
+is_same c = eq_is_same c.key_of-key.result c.load-old.result.key c.eq.ensures
 
 pub replaced-s-requires : goal.replaced-s-requires
 replaced-s-requires c =

@@ -7,5 +7,5 @@ use Rattle.planner.proofs.dagzhimo_search.Goals as goal
 pub returns : goal.returns
 returns c =
     let s = c.args in
-    answers runs_out (call s.job.now s.needs.now s.rights) s.table.now s.plan.now c.numbers-told.result c.search.ensures
+    answers runs_out (call s.job.now s.needs.now s.rights) s.table.now s.plan.now c.numbers-told.result (rw c.new-call.ensures at c.search.ensures)
     c.numbers-told.ensures

@@ -1,10 +1,7 @@
--- `met` puts the conjunction into the first array, one entry a turn.
-use Rattle.std.proofs.Common.{arith}
-use Rattle.progression.proofs.Padding.{met_none, met_more}
+-- Each entry is the conjunction of two.
+use Rattle.std.proofs.Common.{rules, arith}
+use Rattle.progression.proofs.Padding.{met_is}
 use Rattle.progression.proofs.met.Goals as goal
 
-pub loop-i-init : goal.loop-i-init
-loop-i-init c = met_none c.args.a c.args.b
-
-pub loop-i-preserved : goal.loop-i-preserved
-loop-i-preserved c = met_more c.loop-i.i c.args.a c.args.b c.loop-i.both (omega arith) (omega arith) c.loop-i.invariant
+pub returns : goal.returns
+returns c = met_is _ _ _ (omega arith) (omega arith) (λ i l. search rules)

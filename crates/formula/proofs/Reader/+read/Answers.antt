@@ -5,7 +5,7 @@ use Rattle.model.specs.declared.Code.{Code}
 use Rattle.model.specs.declared.Code.TheVariants.{Leaf, Fact, Action, One, Two, Unknown}
 use Rattle.model.specs.logic.Reading.{parsed}
 use Rattle.model.proofs.logic.ReadingLaws.{at_the_end}
-use Rattle.formula.specs.Extent.{is_next, extent}
+use Rattle.formula.specs.Extent.{is_next, wrong_at, extent}
 use Rattle.formula.proofs.Reading.{reading, read_is, read_grows}
 use Rattle.formula.proofs.Reader.+read.Goals as goal
 use Rattle.formula.proofs.Reader.+read.Goals.{After-with_if-here}
@@ -20,13 +20,17 @@ told c k e =
     let a = c.args in
     let r = a.self.now in
     sym (rw (← e, c.with_if-here.ensures, c.is_part.ensures)
-    (read_is r.facts r.actions r.bytes.now a.under a.seen a.at c.from-code.result c.if-self-at.false c.from-code.ensures))
+    (read_is r.facts r.actions r.bytes.now a.under a.seen a.at c.from-code.result c.in_ok-byte.ensures.there.0
+    (rw c.in_ok-byte.ensures.there.1 at c.from-code.ensures)))
 
-pub returns-then-self-at : goal.returns-then-self-at
+pub returns-in_err-byte : goal.returns-in_err-byte
 unfolding extent
-returns-then-self-at t c =
+returns-in_err-byte t c =
     let a = c.args in
-    sym (ap (extent a.under a.seen a.at) (at_the_end a.self.now.facts a.self.now.actions a.self.now.bytes.now a.at c.if-self-at.true))
+    let w = err_from_is_err_and c.from_residual.result c.from_residual.ensures.1 in
+    let p = c.in_err-byte.ensures.past in
+    let r = a.self.now in
+    rw (w.1, w.2, at_the_end r.facts r.actions r.bytes.now a.at p.0) (ap wrong_at p.1)
 
 -- the second operand stands further on, so fewer bytes are left
 pub read-requires-in-Two-2 : goal.read-requires-in-Two-2
@@ -35,7 +39,7 @@ read-requires-in-Two-2 t c =
     let r = a.self.now in
     let e = c.in_ok-first-in-Two in
     let g : a.at + 1 < e.first.next = read_grows r.facts r.actions r.bytes.now _ _ (a.at + 1) e.first e.ensures in
-    (omega arith, tt)
+    (omega (arith, c.in_ok-byte.ensures.there.0), tt)
 
 pub returns-in-Leaf : goal.returns-in-Leaf
 unfolding reading
@@ -58,7 +62,7 @@ returns-in-One t c =
 pub returns-in_err-first-in-Two : goal.returns-in_err-first-in-Two
 unfolding reading
 returns-in_err-first-in-Two t c =
-    let w = err_from_is_err_and c.from_residual.result c.from_residual.ensures.1 in
+    let w = err_from_is_err_and c.from_residual-in_err-first-in-Two.result c.from_residual-in_err-first-in-Two.ensures.1 in
     let e = told (goal.at.returns-in_err-first-in-Two t c).After-with_if-here (Two c.in-Two.field-0) c.in-Two.is in
     rw (w.1, w.2) (rw (← c.in_err-first-in-Two.ensures) at e)
 

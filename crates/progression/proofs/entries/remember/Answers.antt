@@ -7,6 +7,7 @@ use Rattle.progression.proofs.entries.remember.Goals as goal
 pub returns : goal.returns
 returns c =
     let a = c.args in
+    let e = c.entry_of-e.result in
     subst (Remembers a.words.now a.q a.x)
-    (sym (c.put-2.ensures ∙ ap (λ (v : List ℕ). written v (32 + 4 * a.e) a.q a.x) c.put.ensures))
-    (remembered a.words.now a.e a.q c.question_at-old.result a.x c.question_at-old.ensures c.requires)
+    (sym (c.put-2.ensures ∙ ap (λ (v : List ℕ). written v (32 + 4 * e) a.q a.x) c.put.ensures))
+    (remembered a.words.now e a.q c.question_at-old.result a.x c.question_at-old.ensures c.entry_of-e.ensures)

@@ -1,24 +1,24 @@
 -- `take` marks the slot, which is the turn if it is cut; else its expansion is.
-use Rattle.std.proofs.Common.{refl, sym}
-use Rattle.search.proofs.TurnLaws.{cut_turned, uncut_busy, grown_turned, full_ends}
+use Rattle.std.proofs.Common.{refl}
+use Rattle.search.specs.Outcome.{Took}
+use Rattle.search.proofs.TurnLaws.{passed, cut_goes_on, uncut_busy, grown_goes_on, full_ends}
 use Rattle.search.proofs.turns.take.Goals as goal
-use Rattle.search.proofs.turns.take.Goals.{else-not-cut-via-then-not-cut+else-is_err, else-not-cut-via-else-not-cut}
 
 pub expand-requires : goal.expand-requires
 expand-requires c = rw c.mark.ensures (uncut_busy c.requires (rw c.job.ensures at c.if-not-cut.ensures))
 
-pub returns-then-is_err : goal.returns-then-is_err
-returns-then-is_err c = (
-  full_ends c.requires (rw c.job.ensures at c.if-not-cut.ensures) _ _ (rw c.mark.ensures at c.expand.ensures.0) (sym c.if-is_err.ensures.value),
-  c.expand.ensures.1,
+pub returns-in_err-expand : goal.returns-in_err-expand
+returns-in_err-expand c = (
+  passed (Took c.args.work.now c.args.t.now c.expand.new.t) _ c.from_residual.ensures.1
+      (full_ends c.requires (rw c.job.ensures at c.if-not-cut.ensures) _ (rw c.mark.ensures at c.in_err-expand.ensures.0)),
+  c.in_err-expand.ensures.1,
 )
 
-pub returns : goal.returns
-returns c =
-    elim c.else-not-cut.branch [
-      | else-not-cut-via-then-not-cut+else-is_err w ↦ rw (w.t-is, w.work-is) (
-        grown_turned c.requires (rw c.job.ensures at w.if-not-cut.ensures) _ _ (rw c.mark.ensures at w.expand.ensures.0) (sym w.if-is_err.ensures.value),
-        w.expand.ensures.1,
-      )
-      | else-not-cut-via-else-not-cut w ↦ rw (w.t-is, w.work-is, c.mark.ensures) (cut_turned c.requires (rw c.job.ensures at w.if-not-cut.ensures), refl)
-    ]
+pub returns-in_ok-expand : goal.returns-in_ok-expand
+returns-in_ok-expand c = (
+  grown_goes_on c.requires (rw c.job.ensures at c.if-not-cut.ensures) _ (rw c.mark.ensures at c.in_ok-expand.ensures.0),
+  c.in_ok-expand.ensures.1,
+)
+
+pub returns-else-not-cut : goal.returns-else-not-cut
+returns-else-not-cut c = rw c.mark.ensures (cut_goes_on c.requires (rw c.job.ensures at c.if-not-cut.ensures), refl)

@@ -1,21 +1,9 @@
--- `get_row` reads a word a turn.
-use Rattle.std.proofs.Common.{arith, ◌≡◌, refl, append-nil}
-use Rattle.model.specs.job.Job.{list_of}
-use Rattle.table.specs.Cells.{row, row_words}
-use Rattle.table.proofs.CellLaws.{list_of_more}
+-- `get_row` reads the words in order.
+use Rattle.std.proofs.Common.{rules, ◌+◌, ◌*◌}
+use Rattle.table.specs.Cells.{word, row, row_words}
+use Rattle.table.proofs.CellLaws.{list_given}
 use Rattle.table.proofs.cells.get_row.Goals as goal
-
-pub loop-j-init : goal.loop-j-init
-unfolding list_of
-loop-j-init c = refl
-
-pub loop-j-preserved : goal.loop-j-preserved
-loop-j-preserved c =
-    let l = c.loop-j in
-    list_of_more _ _ l.a l.j _ l.invariant c.get.ensures (omega arith)
 
 pub returns : goal.returns
 unfolding row
-returns c =
-    let e : c.loop-j.j ≡ row_words = omega arith in
-    rw (e, append-nil) at c.loop-j.invariant
+returns c = list_given _ (λ j. word c.args.t.now (c.args.i * row_words + j)) (λ j b q k. search rules) _ _ c.from_fn.ensures.items

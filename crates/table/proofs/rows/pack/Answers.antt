@@ -5,4 +5,4 @@ use Rattle.table.proofs.rows.pack.Goals as goal
 pub returns : goal.returns
 returns c =
     let e = c.line.ensures in
-    slot_again c.args.s _ _ _ e.0 c.key_word-key.ensures (rw c.from.ensures at c.flag_word-flags.ensures) e.1 e.2 c.requires
+    slot_again c.args.s _ _ _ e.0 c.key_word-key.ensures c.flag_word-flags.ensures e.1 e.2 c.requires

@@ -10,7 +10,7 @@ loop-i-init c = none_yet _
 pub returns-in_err-unless : goal.returns-in_err-unless
 returns-in_err-unless c =
     refused_at _ _ _ _ c.loop-i.invariant c.from_residual.ensures.1
-    (constraint_checked _ _ _ _ (omega arith) c.closes.ensures c.in_err-unless.ensures) (omega arith)
+    (constraint_checked _ _ _ _ (omega arith) c.closes-met.ensures c.in_err-unless.ensures) (omega arith)
 
 pub loop-i-preserved : goal.loop-i-preserved
-loop-i-preserved c = fine_at _ _ c.loop-i.invariant (constraint_checked _ _ _ _ (omega arith) c.closes.ensures c.in_ok-unless.ensures)
+loop-i-preserved c = fine_at _ _ c.loop-i.invariant (constraint_checked _ _ _ _ (omega arith) c.closes-met.ensures c.in_ok-unless.ensures)

@@ -10,5 +10,5 @@ pub returns : goal.returns
 returns c =
     let n = c.hint_count.ensures.count.0 in
     rw n at
-    (set_of_bits (closed_at (job_of c.args.job.now).hints c.args.rs c.args.facts) c.hint_count.result _ c.set_of-met.ensures.below
+    (set_of_bits (closed_at (job_of c.args.job.now).hints c.args.w.now.hints c.args.w.now.facts) c.hint_count.result _ c.set_of-met.ensures.below
     (λ i l. let e = c.set_of-met.ensures.bits i l in hint_closed _ _ _ _ c.constraint_count-from.ensures.count.0 (rw n at l) (search rules)))

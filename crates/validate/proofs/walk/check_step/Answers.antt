@@ -5,7 +5,7 @@ use Rattle.model.specs.job.Layout.{action_count, job_of}
 use Rattle.model.proofs.job.Accepted.{length-actions}
 use Rattle.model.proofs.job.VerdictLaws.{unless_fine}
 use Rattle.job.proofs.TurnLaws.{refused, after}
-use Rattle.validate.proofs.Verdicts.{right_checked, applicable_checked}
+use Rattle.validate.proofs.Verdicts.{applicable_checked}
 use Rattle.validate.proofs.walk.check_step.Goals as goal
 use Rattle.validate.proofs.walk.check_step.Goals.{In_ok-unless}
 
@@ -25,13 +25,13 @@ returns-in_err-unless c =
     let n = counted c.args.q.now.bytes c.job.ensures c.action_count.ensures.count.0 in
     refused _ _ _ c.from_residual.ensures.1 (rw n at c.in_err-unless.ensures)
 
-pub overflow_shr-usable : goal.overflow_shr-usable
-overflow_shr-usable c = omega (arith, inside (goal.at.overflow_shr-usable c).In_ok-unless)
+pub may_use-requires : goal.may_use-requires
+may_use-requires c = omega (arith, inside (goal.at.may_use-requires c).In_ok-unless)
 
 pub returns-in_err-unless-2 : goal.returns-in_err-unless-2
 returns-in_err-unless-2 c =
     after _ _ _ (fine (goal.at.returns-in_err-unless-2 c).In_ok-unless)
-    (refused _ _ _ c.from_residual-in_err-unless-2.ensures.1 (right_checked c.args.step c.args.i c.usable.ensures c.in_err-unless-2.ensures))
+    (refused _ _ _ c.from_residual-in_err-unless-2.ensures.1 (rw c.may_use.ensures at c.in_err-unless-2.ensures))
 
 pub action_of-action-requires : goal.action_of-action-requires
 action_of-action-requires c =
@@ -40,5 +40,5 @@ action_of-action-requires c =
 pub returns : goal.returns
 returns c =
     after _ _ _ (fine (goal.at.returns c).In_ok-unless)
-    (after _ _ _ (right_checked c.args.step c.args.i c.usable.ensures c.in_ok-unless-2.ensures)
+    (after _ _ _ (rw c.may_use.ensures at c.in_ok-unless-2.ensures)
     (applicable_checked _ c.args.i c.applicable.ensures (rw c.job-2.ensures at c.action_of-action.ensures.acts) c.unless-3.ensures))

@@ -1,6 +1,0 @@
--- The measure of `evaluate`'s recursion is the number of bytes left.
-use Rattle.std.proofs.Common.{◌-◌, length}
-use Rattle.residual.proofs.+evaluate.Given as goal
-
-abbrev pub decreases-evaluate : goal.decreases-evaluate
-decreases-evaluate l = length l.s.now - l.at
