@@ -1,30 +1,14 @@
 -- The numbers of each answer, and counts as bytes.
-use Rattle.std.proofs.Common.{◌≡◌, refl, sym, ap, ap₂, ◌∙◌, ℕ, ◌<◌, arith, Bool, leb, ◌⊎◌, inl, inr, List, [], ◌∷◌, get_or, Ok, Err}
+use Rattle.std.proofs.Common.{◌≡◌, refl, sym, ap, ap₂, ◌∙◌, ℕ, ◌<◌, arith, Bool, leb, ◌⊎◌, inl, inr, List, [], ◌∷◌, Ok, Err}
 use Rattle.std.proofs.Math.Decide.{dec_lt}
 use borrow.Author.Tests.{le-leb, lt-leb}
 use Rattle.model.specs.declared.Passed.{Passed}
 use Rattle.model.specs.Refusal.{Refusal, refusal}
-use Rattle.model.specs.Results.{Searched, Validated, Rewritten}
+use Rattle.model.specs.Results.{Validated, Rewritten}
 use Rattle.model.specs.logic.Formula.{choose}
-use Rattle.model.specs.job.Job.{Job}
-use Rattle.model.specs.calls.Call.{Call}
-use Rattle.model.specs.calls.Search.{search_end, SearchEnds}
 use Rattle.model.specs.calls.WriteBack.{WriteEnd, write_end, rule_verdict, written_back}
-use Rattle.model.specs.calls.Numbers.{refusal_numbers, search_numbers, validate_numbers, write_numbers, SearchAnswers, WriteAnswers}
+use Rattle.model.specs.calls.Numbers.{refusal_numbers, validate_numbers, write_numbers, WriteAnswers}
 use Rattle.normal.proofs.Verdicts.{counts_wrong}
-
--- The numbers of a search, one by one.
-one_by_one : (u : Searched) → get_or (search_numbers u) 0 0 ∷ get_or (search_numbers u) 1 0 ∷ get_or (search_numbers u) 2 0 ∷ [] ≡ search_numbers u
-unfolding search_numbers refusal_numbers
-one_by_one (Ok p) = refl
-one_by_one (Err r) = refl
-
--- The numbers of a search are handed on.
-pub answers : (full : Job → ℕ → Bool) (call : Call) (table plan : List ℕ) {table' plan' : List ℕ} {u : Searched} (told : List ℕ)
-    → SearchEnds full call table plan (search_end u table' plan')
-    → told ≡ search_numbers u → SearchAnswers full call table plan table' plan' (get_or told 0 0 ∷ get_or told 1 0 ∷ get_or told 2 0 ∷ [])
-answers full call table plan {u = u} told g e =
-    record { result = u; ends = g; said = ap (λ (xs : List ℕ). get_or xs 0 0 ∷ get_or xs 1 0 ∷ get_or xs 2 0 ∷ []) e ∙ one_by_one u }
 
 -- a list that passed
 pub passed : (u v : Validated) (p : Passed) (b : ℕ) → u ≡ v → u ≡ Ok p → b ≡ p.hints → 0 ∷ p.cost ∷ b ∷ [] ≡ validate_numbers v

@@ -1,7 +1,7 @@
 -- `write` and `write_negated` write a formula's normal form and that of its negation: each arm hands what the calls gave to the laws of storing,
 -- which hold for both signs. The bytes left become fewer with each call.
 use Rattle.std.proofs.Common.{sym, ◌∙◌, true, false, ℕ, ◌-◌, ◌<◌, arith, length}
-use Rattle.normal.proofs.Nodes.{inside, met, head_fits, number_node}
+use Rattle.normal.proofs.Nodes.{inside, met, head_fits}
 use Rattle.normal.proofs.Storing.{Begun, begun, leaf_stored, number_stored, one_wants, one_stored, two_wants, two_grows, two_wants', two_stored}
 use Rattle.normal.proofs.+write_write_negated.Goals as goal
 use Rattle.normal.proofs.+write_write_negated.Goals.{write-After-put_head-k, write_negated-After-put_head-k}
@@ -18,10 +18,6 @@ plain c = begun c.requires c.from-code.ensures c.byte_at.ensures c.put_head-k.en
 -- fewer bytes are left further on
 fewer_plain : {t : ℕ} (c : write-After-put_head-k t) (m : ℕ) → c.args.at < m → length c.args.s.now - m < t
 fewer_plain c m h = let l : c.args.at < length c.args.s.now = inside c.args.s.now c.args.at c.requires.0 in omega arith
-
-pub write-overflow_add-result : goal.write-overflow_add-result
-write-overflow_add-result t c =
-    omega (arith, (number_node (plain (goal.at.write-overflow_add-result t c).After-put_head-k).met c.in-Fact.is).0)
 
 pub write-write-requires : goal.write-write-requires
 write-write-requires t c =
@@ -83,10 +79,6 @@ negated c = begun c.requires c.from-code.ensures c.byte_at.ensures c.put_head-k.
 -- fewer bytes are left further on
 fewer_negated : {t : ℕ} (c : write_negated-After-put_head-k t) (m : ℕ) → c.args.at < m → length c.args.s.now - m < t
 fewer_negated c m h = let l : c.args.at < length c.args.s.now = inside c.args.s.now c.args.at c.requires.0 in omega arith
-
-pub write_negated-overflow_add-result : goal.write_negated-overflow_add-result
-write_negated-overflow_add-result t c =
-    omega (arith, (number_node (negated (goal.at.write_negated-overflow_add-result t c).After-put_head-k).met c.in-Fact.is).0)
 
 pub write_negated-write-requires : goal.write_negated-write-requires
 write_negated-write-requires t c =

@@ -10,8 +10,5 @@ loop-i-init c = nothing_first _ _ _
 pub overflow_add-at : goal.overflow_add-at
 overflow_add-at c = omega (arith, few_sections _ c.sections_of-at.ensures.accepted)
 
-pub formula-requires : goal.formula-requires
-formula-requires c = let a = c.sections_of-at.ensures in (omega (arith, a.starts), omega (arith, a.ends))
-
 pub loop-i-preserved : goal.loop-i-preserved
 loop-i-preserved c = let l = c.loop-i in first_more _ _ _ l.i _ _ l.invariant (rw c.formula.ensures at c.first.ensures) (omega arith)

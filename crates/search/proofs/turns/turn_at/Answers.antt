@@ -1,7 +1,6 @@
 -- `turn_at` ends at a goal whose key is the least rank, and takes the slot if there is none.
 use Rattle.std.proofs.Common.{refl}
-use Rattle.search.specs.Outcome.{Turned}
-use Rattle.search.proofs.TurnLaws.{passed, idle_chained, none_takes, goal_ends}
+use Rattle.search.proofs.TurnLaws.{idle_chained, none_takes, goal_ends}
 use Rattle.search.proofs.turns.turn_at.Goals as goal
 
 pub first_goal-requires : goal.first_goal-requires
@@ -12,7 +11,3 @@ take-requires c = none_takes c.requires.0 c.requires.1 (rw (c.job.ensures, c.ran
 
 pub returns-in-Some : goal.returns-in-Some
 returns-in-Some c = (goal_ends c.requires.0 c.requires.1 (rw (c.job.ensures, c.rank-key.ensures) at c.first_goal.ensures) c.in-Some.is, refl)
-
-pub returns-in_err-take : goal.returns-in_err-take
-returns-in_err-take c =
-    (passed (Turned c.args.work.now c.args.t.now c.take.new.t) _ c.from_residual.ensures.1 c.in_err-take.ensures.0, c.in_err-take.ensures.1)
