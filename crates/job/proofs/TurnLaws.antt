@@ -33,9 +33,5 @@ module _ (f : ℕ → Verdict) where
   unfolding in_turn
   none_yet = refl
 
-  -- The row is fine when its last check is.
-  pub all_fine : (n i : ℕ) → in_turn i f ≡ no_refusal → i ≡ n → no_refusal ≡ in_turn n f
-  all_fine n i h e = rw (← e, h)
-
 -- By these a loop over checks is proved, with the invariant that those passed are fine.
 pub ruleset turns = (in_turn_first, fine_at, none_yet)

@@ -40,23 +40,23 @@ EndsAs t (Ok g) res =
     Chained t.slots × (g < length t.slots) × (res ≡ answered (plan (slot_in t.slots g).key.cost (slot_path t.slots (steps_at t.slots g) g)))
 EndsAs t (Err r) res = EndsFor r res
 
--- The search of a job goes on from a table t with a table u.
+-- A turn that began with a table t left a table u, and the search goes on with that.
 abbrev pub GoesOn : Query → Table → Table → Type 0
 GoesOn job t u =
     Idle job u × (u.room ≡ t.room)
     × ((k : ℕ) → turns (sys job) t.room (suc k) (held_in job.bytes t.slots) ≡ turns (sys job) t.room k (held_in job.bytes u.slots))
 
--- The search of a job ends from a table t with a table u: this is said of it.
+-- A turn that began with a table t left a table u and ended the search: e is what the code says of it.
 abbrev pub EndsIn : Query → Table → Table → Ended → Type 0
 EndsIn job t u e = (k : ℕ) → EndsAs u e (turns (sys job) t.room (suc k) (held_in job.bytes t.slots))
 
--- One turn from a table t: it ends at a slot, it goes on, or it ends without one.
+-- A turn that began with a table t left u: the search ends at a slot, it goes on, or it ends without one.
 abbrev pub Turned : Query → Table → Table → Result (Option ℕ) Reason → Type 0
 Turned job t u (Ok (Some g)) = EndsIn job t u (Ok g)
 Turned job t u (Ok None) = GoesOn job t u
 Turned job t u (Err r) = EndsIn job t u (Err r)
 
--- A slot of a table t is taken: the search goes on with u, or it ends.
+-- A slot of a table t was taken, which left u: the search goes on, or it ends without a slot.
 abbrev pub Took : Query → Table → Table → Result Unit Reason → Type 0
 Took job t u (Ok _) = GoesOn job t u
 Took job t u (Err r) = EndsIn job t u (Err r)
