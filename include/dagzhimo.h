@@ -19,7 +19,7 @@
  * - that what is written (table, plan, buffer, out) overlaps nothing else that is lent.
  *
  * Nothing is static, and nothing is allocated: threads may call at once, each with a table, buffers and out of its own. A call needs up to
- * DAGZHIMO_STACK bytes of stack; a thread with less may crash. (93,984 were measured with the longest job, whose formulas are nested as deep as can be.)
+ * DAGZHIMO_STACK bytes of stack; a thread with less may crash. (93,136 were measured with the longest job, whose formulas are nested as deep as can be.)
  */
 #ifndef DAGZHIMO_H
 #define DAGZHIMO_H

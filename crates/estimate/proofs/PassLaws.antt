@@ -16,6 +16,12 @@ use Rattle.model.proofs.rights.Steps.{length-restricted, action_usable, action_b
 use Rattle.estimate.specs.Meaning.{dearest}
 use Rattle.estimate.specs.Turns.{Low, LowGain, AllLow, StaysLow, Passed}
 
+-- ---- ends
+
+-- Written again, an end that is known changes nothing.
+pub same_end : (ends : Ends) (i : ℕ) {e : Option ℕ} → get_or ends i None ≡ e → ends ≡ set ends i e
+same_end ends i f = rw (← f) (sym (set-get_or ends i None))
+
 -- ---- gains
 
 -- What is so of two gains is so of the sooner.

@@ -3,7 +3,7 @@
 // soonest end of an action that adds a fact which is not built. Only the actions that the caller may use are counted (card 4).
 #![tactic(auto)]
 
-ghost use Rattle.std.specs.Prelude.{◌≡◌, ◌≤◌, ◌<◌, length};
+ghost use Rattle.std.specs.Prelude.{◌≡◌, ◌≤◌, ◌<◌, length, get_or, set, None};
 ghost use Rattle.model.specs.job.Layout.{action_count, job_of};
 ghost use Rattle.model.specs.search.Query.{job_for};
 ghost use Rattle.model.specs.search.Estimate.{end_of, sooner, gain_of};
@@ -34,25 +34,35 @@ impl Model for Gain {
     ghost inverse = { λ g. record { level = g.level; adds = g.adds } };
 }
 
-// The end of action i at a level: as it was, or its cost after the level where its needed facts are built and were not before. The values that this function
-// and the next one share stay apart: a struct of them would be built anew for each action.
-#[tactic(auto, using(job::proofs::Accepted::action_of_lem), unfolding(model::specs::search::Estimate::end_of))]
-fn end_of(job: &Job, built: u64, level: u64, end: Option<u64>, i: usize) -> Option<u64>
-    requires { (i < action_count job.now) × (level ≤ highest) }
-    ensures is { result ≡ end_of (job_of job.now) built level end i }
-    ensures low { StaysLow level end result }
+// The end of action i at a level: as it was, or its cost after the level where its needed facts are built and were not before. Only a new end is written, since
+// most are known. The values that this function and the next one share stay apart: a struct of them would be built anew for each action.
+#[tactic(auto, using(job::proofs::Accepted::action_of_lem, crate::proofs::PassLaws::same_end), unfolding(model::specs::search::Estimate::end_of))]
+fn end_of(
+    job: &Job,
+    built: u64,
+    level: u64,
+    ends: &mut [Option<u64>; ACTIONS],
+    i: usize,
+) -> Option<u64>
+    requires { (i < action_count job.now) × (i < 64) × (level ≤ highest) }
+    ensures is { result ≡ end_of (job_of job.now) built level (get_or ends.old i None) i }
+    ensures low { StaysLow level (get_or ends.old i None) result }
+    ensures written { ends.new ≡ set ends.old i result }
 {
-    if end.is_some() {
-        return end;
+    if ends[i].is_some() {
+        return ends[i];
     }
     let state = State { facts: built };
-    if state.has(job.action_pre(i)) {
-        return Some(level + job.action_cost(i));
+    if !state.has(job.action_pre(i)) {
+        return None;
     }
-    None
+    let end = Some(level + job.action_cost(i));
+    ends[i] = end;
+    end
 }
 
-// The sooner of the best gain so far and that of action i, which ends at `end`; the best so far where both are as soon.
+// The sooner of the best gain so far and that of action i, which ends at `end`; the best so far where both are as soon. What the action adds is read only if
+// it ends sooner, which few do.
 #[tactic(auto, using(job::proofs::Accepted::action_of_lem), unfolding(model::specs::search::Estimate::sooner, model::specs::search::Estimate::gain_of))]
 fn sooner(job: &Job, built: u64, end: Option<u64>, i: usize, best: Option<Gain>) -> Option<Gain>
     requires { i < action_count job.now }
@@ -61,14 +71,16 @@ fn sooner(job: &Job, built: u64, end: Option<u64>, i: usize, best: Option<Gain>)
     let Some(level) = end else {
         return best;
     };
-    let adds = job.action_add(i);
-    let state = State { facts: built };
-    if state.has(adds) {
-        return best;
-    }
     match best {
         Some(b) if b.level <= level => best,
-        _ => Some(Gain { level, adds }),
+        _ => {
+            let adds = job.action_add(i);
+            let state = State { facts: built };
+            if state.has(adds) {
+                return best;
+            }
+            Some(Gain { level, adds })
+        }
     }
 }
 
@@ -84,8 +96,7 @@ fn pass(q: &Query, built: u64, level: u64, ends: &mut [Option<u64>; ACTIONS]) ->
         let counted = q.may_use(action);
         if counted {
             let i = usize::from(action);
-            let end = end_of(job, built, level, ends[i], i);
-            ends[i] = end;
+            let end = end_of(job, built, level, ends, i);
             best = sooner(job, built, end, i, best);
         }
     }
@@ -106,7 +117,10 @@ pub fn estimate(q: &Query, facts: u64) -> Option<u64>
         if state.has(goal) {
             return Some(level);
         }
-        let gain = pass(q, built, level, &mut ends)?;
+        // Written out in place of `?`, so that an edit can answer 0 here.
+        let Some(gain) = pass(q, built, level, &mut ends) else {
+            return None;
+        };
         built |= gain.adds;
         level = gain.level;
     }

@@ -39,10 +39,11 @@ fn relax(work: &mut Work, t: &mut Table, x: &Arrival, j: usize)
     requires { Arriving work.old t.old x.now.slot x.now.from x.now.action × (j < length t.old.slots) }
     ensures { Relaxes work.old t.old x.now.slot x.now.from x.now.action x.now.node j t.new × (work.new ≡ work.old) }
 {
-    if t.is_taken(j) {
+    let slots = t.in_use();
+    if slots.is_taken(j) {
         return;
     }
-    let old = t.load(j);
+    let old = slots.load(j);
     let key = made::key_of(work.job(), x);
     if key < old.key {
         let s = made::replaced(work, x, key, &old);
@@ -58,7 +59,7 @@ fn arrive(work: &mut Work, t: &mut Table, x: &Arrival) -> Result<(), Full>
     requires { Arriving work.old t.old x.now.slot x.now.from x.now.action × LeadsTo work.old x.now.from x.now.action x.now.node }
     ensures { Follows work.old t.old x.now.slot x.now.from x.now.action result t.new × (work.new ≡ work.old) }
 {
-    if let Some(j) = t.find(x.node) {
+    if let Some(j) = t.in_use().find(x.node) {
         relax(work, t, x, j);
         return Ok(());
     }
@@ -99,7 +100,7 @@ pub fn expand(work: &mut Work, t: &mut Table, i: usize) -> Result<(), Full>
     requires { Busy work.old t.old i 0 }
     ensures { Expands work.old t.old i result t.new × (work.new ≡ work.old) }
 {
-    let from = t.load(i);
+    let from = t.in_use().load(i);
     let choices = nodes::choices(work.query(), from.node);
     for a in 0..work.job().action_count() {
         if bits::bit_at(choices, a) {

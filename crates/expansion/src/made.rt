@@ -88,7 +88,7 @@ pub fn merged(work: &mut Work, t: &Table, x: &Arrival, old: &Slot) -> Slot
     let hints = progression::met(old.hints, hints_of(work, x));
     let ours = u64::from(x.action);
     let theirs = u64::from(old.action);
-    if paths::comes_first(t, x.slot, ours, old.parent, theirs) {
+    if paths::comes_first(&t.in_use(), x.slot, ours, old.parent, theirs) {
         Slot {
             hints,
             parent: x.slot,

@@ -13,7 +13,7 @@ use std::marker::Model;
 
 // A clause sees the bytes. An invariant is known only inside these functions, so each promises it again, as `accepted`. That a number is one of an action or
 // a section is asked as a slice asks of an index: a type for it would have to hold its job.
-#[derive(Drop)]
+#[derive(Clone, Drop)]
 pub struct Job<'a> {
     bytes: &'a [u8],
 }

@@ -6,7 +6,7 @@ use super::Job;
 use std::marker::Model;
 
 // The actions that the caller may use have one bit each. A clause sees the query of the model.
-#[derive(Drop)]
+#[derive(Clone, Drop)]
 pub struct Query<'a> {
     job: Job<'a>,
     usable: u64,

@@ -98,26 +98,22 @@ pub enum Reason {
     NoRight = 15,
 }
 
-// A refusal: why, and its one place. A clause sees its number and its place.
+// A refusal: its number and its one place. A clause sees both.
 #[derive(Clone, Copy, Debug)]
 pub struct Refusal {
-    reason: Reason,
+    number: u8,
     place: usize,
 }
 
 impl Model for Refusal {
-    ghost use Rattle.std.proofs.Common.{ap};
     ghost use Rattle.model.specs.Refusal.{refusal};
     ghost use Rattle.model.specs.Refusal.{Refusal as Numbered};
-    ghost use Rattle.model.specs.Reason.{number_of, reason_of, reason_is};
 
     ghost Value = { Numbered };
 
-    ghost view = { λ r. refusal (number_of r.reason) r.place };
+    ghost view = { λ r. refusal r.number r.place };
 
-    ghost inverse = { λ r. record { reason = reason_of r.number; place = r.place } };
-
-    ghost inverse_ok = { λ r h. ap (λ x. record { reason = x; place = r.place }) (reason_is r.reason) };
+    ghost inverse = { λ r. record { number = r.number; place = r.place } };
 }
 
 impl Refusal {
@@ -125,16 +121,27 @@ impl Refusal {
     ghost use Rattle.model.specs.Refusal.{refusal};
     ghost use Rattle.model.specs.Reason.{number_of};
 
+    // The refusal for a reason.
     pub fn new(reason: Reason, place: usize) -> Refusal
         ensures { result ≡ refusal (number_of reason) place }
     {
-        Refusal { reason, place }
+        Refusal {
+            number: reason as u8,
+            place,
+        }
+    }
+
+    // A refusal of any number, as one that is told by a program may have it.
+    pub fn numbered(number: u8, place: usize) -> Refusal
+        ensures { result ≡ refusal number place }
+    {
+        Refusal { number, place }
     }
 
     pub fn number(self) -> u8
         ensures { result ≡ self.number }
     {
-        self.reason as u8
+        self.number
     }
 
     pub fn place(self) -> usize
@@ -147,7 +154,7 @@ impl Refusal {
 // As the programs print it: `refused 12 0`.
 impl fmt::Display for Refusal {
     fn fmt<W: fmt::Write>(&self, f: &mut fmt::Formatter<W>) -> fmt::Result {
-        write!(f, "refused {} {}", self.number(), self.place)
+        write!(f, "refused {} {}", self.number, self.place)
     }
 }
 

@@ -2,5 +2,6 @@
 pub mod Texts
 pub mod Nodes
 pub mod Storing
+pub mod Measuring
 pub mod Verdicts
 pub mod WritingBack

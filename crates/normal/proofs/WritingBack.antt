@@ -1,10 +1,10 @@
 -- Writing a rule back, once the verdict on it and the length of its normal form are known.
-use Rattle.std.proofs.Common.{Ok, Err, ◌≡◌, sym, ap, ◌∙◌, true, List, ◌++◌, ℕ, ◌+◌, ◌≤◌, zero-add, arith, append_assoc, length, take, drop, leb, le-leb}
+use Rattle.std.proofs.Common.{Ok, Err, ◌≡◌, sym, ap, ◌∙◌, true, List, ◌++◌, ℕ, ◌+◌, ◌≤◌, zero-add, arith, length, drop, leb, le-leb}
 use Rattle.std.proofs.Common.{leb-true}
 use Rattle.model.specs.Verdict.{no_refusal, unless}
 use Rattle.std.proofs.Math.Path.{subst⁻¹}
 use Rattle.std.proofs.lemmas.List.Edits.{sets}
-use Rattle.std.proofs.Math.Seq.{sets-eq, length-sets, take-append_seam}
+use Rattle.std.proofs.Math.Seq.{sets-eq}
 use Rattle.std.proofs.lemmas.Bool.Decides.{nat_tests}
 use Rattle.model.specs.Refusal.{Refusal}
 use Rattle.model.specs.logic.Formula.{Formula}
@@ -15,33 +15,31 @@ use Rattle.model.proofs.logic.ReadingLaws.{section_from, parsed_size, parsed_wid
 use Rattle.model.proofs.job.VerdictLaws.{unless_fine}
 use Rattle.model.proofs.calls.RuleLaws.{rule_fine}
 use Rattle.normal.specs.declared.Ends.{Ends}
-use Rattle.normal.specs.Writing.{Whole, bytes_of, Room, Stored}
+use Rattle.normal.specs.Writing.{Whole, bytes_of, Room, ends_of}
 use Rattle.normal.proofs.Texts.{text_bound}
 
 -- ---- bytes into a buffer
--- what is written at a buffer's start stands there
-written : (bytes l : List ℕ) → length bytes ≤ length l → take (length bytes) (sets l 0 bytes) ≡ bytes
-written bytes l h = let g : 0 + length bytes ≤ length l = omega arith in rw (sets-eq bytes l 0 g, append_assoc) (take-append_seam bytes _)
-
 module _ (bytes out : List ℕ) where
   -- 13: the buffer is too short
   into_short : {r : Refusal} → Err r ≡ unless (leb (length bytes) (length out)) 13 (length bytes) → write_end (Err r) out ≡ into bytes out
   unfolding into unless
   into_short e = grind (arith, nat_tests)
 
-  into_done : length bytes ≤ length out → write_end (Ok (length bytes)) (bytes ++ drop (length bytes) out) ≡ into bytes out
+  -- the bytes at its start, and the rest as it was
+  over : length bytes ≤ length out → sets out 0 bytes ≡ bytes ++ drop (length bytes) out
+  over h = let g : 0 + length bytes ≤ length out = omega arith in sets-eq bytes out 0 g ∙ ap (λ (n : ℕ). bytes ++ drop n out) (zero-add (length bytes))
+
+  into_done : length bytes ≤ length out → write_end (Ok (length bytes)) (sets out 0 bytes) ≡ into bytes out
   unfolding into
-  into_done h = rw (le-leb (length bytes) (length out) h, into)
+  into_done h = rw (over h, le-leb (length bytes) (length out) h, into)
 
 -- the buffer is long enough
 pub fits : {n m : ℕ} → no_refusal ≡ unless (leb n m) 13 n → n ≤ m
 fits {n} {m} h = leb-true n m ((unless_fine (leb n m) 13 n).0 (sym h))
 
--- the normal form of a rule stands at a text's start, n bytes
-pub record Aside (rule text : List ℕ) (n : ℕ) : Type 0 where
-  pub number : n ≡ length (bytes_of (parsed 64 64 rule 0) true)
-  pub inside : n ≤ length text
-  pub stands : take n text ≡ bytes_of (parsed 64 64 rule 0) true
+-- written from a buffer's start on, the normal form ends at its length
+pub ends_at : (p : Parsed) {m : Ends} → m ≡ ends_of p true 0 → m.to ≡ length (bytes_of p true)
+ends_at p e = ap (λ (x : Ends). x.to) e ∙ zero-add _
 
 -- ---- the verdict, and then the bytes
 module _ (v a : ℕ) (rule : List ℕ) where
@@ -69,31 +67,22 @@ module _ (v a : ℕ) (rule : List ℕ) where
   unfolding rewritten bytes_of
   same_bytes e = let x = passes e in ap rewritten x.2 ∙ sym (ap (λ (q : Parsed). bytes_of q true) x.3)
 
-  -- `write` puts it there
-  pub aside : no_refusal ≡ rule_verdict v a rule → (m : Ends) (blank text : List ℕ) → length blank ≡ 384 → Stored p true 0 blank m text
-      → Aside rule text m.to
-  aside e m blank text l w =
-      let n : m.to ≡ length (bytes_of p true) = ap (λ (x : Ends). x.to) w.0 ∙ zero-add _ in
-      let h : length (bytes_of p true) ≤ length blank = omega (arith, (has_room e).1) in
-      record {
-        number = n;
-        inside = omega (arith, ap length w.1, length-sets blank 0 (bytes_of p true));
-        stands = rw (n, w.1) (written (bytes_of p true) blank h);
-      }
-
   module _ (out : List ℕ) where
     -- a rule that does not pass
     pub refused : (r : Refusal) → Err r ≡ rule_verdict v a rule → write_end (Err r) out ≡ written_back v a rule out
     unfolding written_back
     refused r e = rw (← e, written_back)
 
-    module _ (e : no_refusal ≡ rule_verdict v a rule) {text : List ℕ} {n : ℕ} (g : Aside rule text n) where
+    module _ (e : no_refusal ≡ rule_verdict v a rule) {n : ℕ} (f : n ≡ length (bytes_of p true)) where
       goes_on : into (bytes_of p true) out ≡ written_back v a rule out
       unfolding written_back
       goes_on = rw (← e, written_back) (ap (λ (bytes : List ℕ). into bytes out) (sym (same_bytes e)))
 
       pub too_short : {r : Refusal} → Err r ≡ unless (leb n (length out)) 13 n → write_end (Err r) out ≡ written_back v a rule out
-      too_short h = into_short (bytes_of p true) out (rw g.number at h) ∙ goes_on
+      too_short h = into_short (bytes_of p true) out (rw f at h) ∙ goes_on
 
-      pub done : n ≤ length out → write_end (Ok n) (take n text ++ drop n out) ≡ written_back v a rule out
-      done h = rw (g.stands, g.number) (into_done (bytes_of p true) out (omega (arith, g.number)) ∙ goes_on)
+      pub room : n ≤ length out → Room p true 0 (length out)
+      room h = ((has_room e).0, omega (arith, f))
+
+      pub done : n ≤ length out → {out' : List ℕ} → out' ≡ sets out 0 (bytes_of p true) → write_end (Ok n) out' ≡ written_back v a rule out
+      done h w = rw (w, f) (into_done (bytes_of p true) out (omega (arith, f)) ∙ goes_on)

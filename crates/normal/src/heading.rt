@@ -39,6 +39,18 @@ fn put(out: &mut [u8], to: usize, h: Head) -> usize
     }
 }
 
+// The number of bytes.
+fn count(h: Head) -> usize
+    ensures { (result ≡ length (bytes_in h)) × (result ≤ 3) }
+{
+    match h {
+        Head::Nothing => 0,
+        Head::Single(_) => 1,
+        Head::Pair(_, _) => 2,
+        Head::Triple(_, _, _) => 3,
+    }
+}
+
 // Operators of none, one and two operands are three types, so each has its function.
 fn head_leaf(c: Constant, plain: bool) -> Head
     ensures { result ≡ head0 c plain }
@@ -111,4 +123,12 @@ pub fn put_head(out: &mut [u8], to: usize, code: Code, n: u8, plain: bool) -> us
     ensures { (result ≡ to + length (heading code n plain)) × (out.new ≡ sets out.old to (heading code n plain)) }
 {
     put(out, to, head_of(code, n, plain))
+}
+
+// Goes past the heading of a node without writing.
+pub fn pass_head(to: usize, code: Code, n: u8, plain: bool) -> usize
+    requires { to + length (heading code n plain) ≤ 384 }
+    ensures { result ≡ to + length (heading code n plain) }
+{
+    to + count(head_of(code, n, plain))
 }

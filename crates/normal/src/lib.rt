@@ -7,7 +7,7 @@ pub mod heading;
 ghost use Rattle.std.specs.Prelude.{◌≡◌, true, false, length, get_or};
 ghost use Rattle.model.specs.logic.Reading.{parsed};
 ghost use Rattle.model.specs.calls.WriteBack.{write_end, rule_verdict, written_back};
-ghost use Rattle.normal.specs.Writing.{Room, Stored};
+ghost use Rattle.normal.specs.Writing.{Room, ends_of, Stored};
 
 use formula::Reader;
 use model::{Code, Reason, Refusal, Verdict, unless};
@@ -20,14 +20,32 @@ pub struct Ends {
     pub to: usize,
 }
 
-// A rule has at most 128 bytes, and its normal form at most three times as many.
-const MOST_BYTES: usize = 384;
-
 // The byte at a position, or 0 past the end.
 fn byte_at(s: &[u8], at: usize) -> u8
     ensures { result ≡ get_or s.now at 0 }
 {
     s.get(at).copied().unwrap_or(0)
+}
+
+// Where the formula at a position ends, and where its normal form would end: as the two writers below, without writing. A rule has at most 128 bytes, and
+// its normal form at most three times as many, 384. A formula was read at the position, so that its first byte is there and `Unknown` is not met.
+#[tactic(auto, using(crate::proofs::Nodes::inside))]
+fn measure(s: &[u8], at: usize, to: usize, plain: bool) -> Ends
+    requires { Room (parsed 64 64 s.now at) plain to 384 }
+    ensures { result ≡ ends_of (parsed 64 64 s.now at) plain to }
+{
+    let code = Code::from(s[at]);
+    let b = at + 1;
+    let k = heading::pass_head(to, code, byte_at(s, b), plain);
+    match code {
+        Code::Leaf(_) | Code::Unknown => Ends { next: b, to: k },
+        Code::Fact | Code::Action => Ends { next: b + 1, to: k },
+        Code::One(o) => measure(s, b, k, heading::sign_of(o, plain)),
+        Code::Two(_) => {
+            let p = measure(s, b, k, plain);
+            measure(s, p.next, p.to, plain)
+        }
+    }
 }
 
 // Writes the normal form of the formula at a position. Here and in `write_negated` a formula was read there, so that its first byte is
@@ -96,16 +114,15 @@ fn check_rule(facts: u8, actions: u8, rule: &[u8]) -> Verdict
     reader.check(0)
 }
 
-// Writes a rule back into a buffer, and gives how many bytes it has. They are written aside first, so that the buffer is untouched if it is
-// too short.
+// Writes a rule back into a buffer, and gives how many bytes it has. It is measured first, so that the buffer is untouched if it is too short. It is not
+// written aside and copied, since then the library for C would need `memcpy` from outside.
 #[tactic(auto, using(crate::proofs::WritingBack::fits))]
 pub fn write_back(facts: u8, actions: u8, rule: &[u8], out: &mut [u8]) -> Result<usize, Refusal>
     ensures { write_end result out.new ≡ written_back facts actions rule.now out.old }
 {
     check_rule(facts, actions, rule)?;
-    let mut text = [0; MOST_BYTES];
-    let needed = write(rule, 0, &mut text, 0).to;
+    let needed = measure(rule, 0, 0, true).to;
     unless(needed <= out.len(), Reason::BufferTooShort, needed)?;
-    out[..needed].copy_from_slice(&text[..needed]);
+    write(rule, 0, out, 0);
     Ok(needed)
 }

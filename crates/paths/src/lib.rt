@@ -1,17 +1,17 @@
 // The paths that the slots of a table stand for, followed from parent to parent: two of them compared, and one written out.
-// That slots are chained is asked by each function, and is no promise of a table: a table takes any slot, and only a search keeps them so.
+// That slots are chained is asked by each function, and is no promise of `InUse`: that takes any bytes, and only a search keeps slots so.
 #![tactic(auto)]
 
 ghost use Rattle.std.specs.Prelude.{◌≡◌, ◌++◌, ◌≤◌, ◌<◌, length, drop};
 ghost use Rattle.paths.specs.Chain.{steps_at, slot_path, order, order_by, Chained, Level};
 
-use table::Table;
+use table::InUse;
 
 // Whether the path of the slot x comes before that of y, another slot with equally many steps. The order is decided where the two paths
 // part, so both are followed back until their parents are one.
-pub fn before(t: &Table, x: usize, y: usize) -> bool
-    requires { Chained t.now.slots × Level t.now.slots x y }
-    ensures { result ≡ order t.now.slots x y }
+pub fn before(t: &InUse, x: usize, y: usize) -> bool
+    requires { Chained t.now × Level t.now x y }
+    ensures { result ≡ order t.now x y }
 {
     let mut i = x;
     let mut j = y;
@@ -28,9 +28,9 @@ pub fn before(t: &Table, x: usize, y: usize) -> bool
 }
 
 // Whether the path of the slot i and on by action a comes before that of the slot j and on by b, where i and j have equally many steps.
-pub fn comes_first(t: &Table, i: usize, a: u64, j: usize, b: u64) -> bool
-    requires { Chained t.now.slots × (i < length t.now.slots) × (j < length t.now.slots) × (steps_at t.now.slots i ≡ steps_at t.now.slots j) }
-    ensures { result ≡ order_by t.now.slots i a j b }
+pub fn comes_first(t: &InUse, i: usize, a: u64, j: usize, b: u64) -> bool
+    requires { Chained t.now × (i < length t.now) × (j < length t.now) × (steps_at t.now i ≡ steps_at t.now j) }
+    ensures { result ≡ order_by t.now i a j b }
 {
     if i == j {
         return a < b;
@@ -39,9 +39,9 @@ pub fn comes_first(t: &Table, i: usize, a: u64, j: usize, b: u64) -> bool
 }
 
 // Writes the path of the slot i to the front of a plan, from its last action to its first.
-pub fn write(t: &Table, i: usize, plan: &mut [u8])
-    requires { Chained t.now.slots × (i < length t.now.slots) × (steps_at t.now.slots i ≤ length plan.old) }
-    ensures { plan.new ≡ slot_path t.now.slots (steps_at t.now.slots i) i ++ drop (steps_at t.now.slots i) plan.old }
+pub fn write(t: &InUse, i: usize, plan: &mut [u8])
+    requires { Chained t.now × (i < length t.now) × (steps_at t.now i ≤ length plan.old) }
+    ensures { plan.new ≡ slot_path t.now (steps_at t.now i) i ++ drop (steps_at t.now i) plan.old }
 {
     let mut at = i;
     for k in (0..t.key(i).steps as usize).rev() {

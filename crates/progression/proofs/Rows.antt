@@ -14,8 +14,10 @@ use Rattle.model.specs.job.Decoding.{job_verdict}
 use Rattle.model.specs.search.Node.{residuals, progressed_all, closing_all}
 use Rattle.model.proofs.job.VerdictLaws.{length-list_of}
 use Rattle.model.proofs.job.ResidualLists.{length-residuals, length-progressed_all}
+use Rattle.progression.specs.declared.Group.{Group}
 use Rattle.progression.specs.declared.Group.TheVariants.{Constraints, Hints}
-use Rattle.progression.specs.Padded.{padded, formulas_from, count_of, AreSections}
+use Rattle.progression.specs.declared.Sections.{Sections}
+use Rattle.progression.specs.Padded.{padded, formulas_from, formulas_of, count_of, AreSections}
 use Rattle.progression.proofs.Padding.{set_padded, padded_none}
 
 -- ---- one formula more after others
@@ -60,7 +62,7 @@ module _ (bytes : List ℕ) where
   unfolding job_of formulas_from
   constraints_from = refl
 
-  hints_from : (job_of bytes).hints ≡ formulas_from bytes (1 + constraint_count bytes) (hint_count bytes)
+  pub hints_from : (job_of bytes).hints ≡ formulas_from bytes (1 + constraint_count bytes) (hint_count bytes)
   unfolding job_of formulas_from
   hints_from = refl
 
@@ -160,3 +162,8 @@ module _ (bytes : List ℕ) where
     few = l;
     are = rw (d, e) (sym hints_from);
   }
+
+  -- Where a group has none, nothing is left.
+  pub none_next : {g : Group} {r : Sections} → AreSections bytes g r → r.count ≡ 0 → (rs : List ℕ) (w : World)
+      → replicate 8 0 ≡ padded (progressed_all (formulas_of g (job_of bytes)) (take (count_of g bytes) rs) w)
+  none_next s e rs w = rw (← s.are, ← s.count, e) (nothing_next _ w)

@@ -5,9 +5,9 @@
 ghost use Rattle.std.specs.Prelude.{◌≡◌, ◌+◌, ◌≤◌, ◌<◌, take};
 ghost use Rattle.model.specs.logic.Parts.{parts_of};
 ghost use Rattle.model.specs.logic.Progression.{closing};
-ghost use Rattle.model.specs.job.Layout.{constraint_count, hint_count, formula_at, job_of};
+ghost use Rattle.model.specs.job.Layout.{constraint_count, hint_count, pair_count, formula_at, job_of};
 ghost use Rattle.model.specs.search.Node.{residuals, progressed_all, closing_all, some_dead, meet_all};
-ghost use Rattle.progression.specs.Padded.{padded, formulas_of, count_of, AreSections};
+ghost use Rattle.progression.specs.Padded.{padded, formulas_from, formulas_of, count_of, AreSections};
 ghost use Rattle.progression.specs.Workspace.{pays};
 
 use job::Job;
@@ -74,19 +74,33 @@ pub fn pays(job: &Job, worlds: usize) -> bool
     bytes != 0 && 4096 / bytes <= worlds
 }
 
-// What the residuals of a group leave after a world. A residual, a state and an action stay three values, here and below: the residual differs at each call,
-// and a struct would be built in one function and opened in the next.
+// What the residuals of the formulas in sections leave after a world. A residual, a state and an action stay three values, here and below: the residual differs
+// at each call, and a struct would be built in one function and opened in the next. It stays a call of its own, so that `next` is no more than a test.
+#[inline(never)]
+fn next_in(work: &mut Work, at: Sections, rs: [u64; 8], state: u64, action: u8) -> [u64; 8]
+    requires { (1 ≤ at.from) × (at.from + at.count ≤ pair_count work.old.bytes) × (at.from + at.count ≤ 17) × (at.count ≤ 8) × (action < 64) }
+    ensures { (result ≡ padded (progressed_all (formulas_from work.old.bytes at.from at.count) (take at.count rs)
+        (record { state = state; made = Some action }))) × (work.new ≡ work.old) }
+{
+    let mut left = [0; 8];
+    for i in 0..at.count {
+        left[i] = work.next(at.from + i, rs[i], state, action);
+    }
+    left
+}
+
+// What the residuals of a group leave after a world. Most groups have no formula: for those no residual is copied, and nothing is called.
+#[inline(always)]
 pub fn next(work: &mut Work, group: Group, rs: [u64; 8], state: u64, action: u8) -> [u64; 8]
     requires { action < 64 }
     ensures { (result ≡ padded (progressed_all (formulas_of group (job_of work.old.bytes)) (take (count_of group work.old.bytes) rs)
         (record { state = state; made = Some action }))) × (work.new ≡ work.old) }
 {
     let at = sections_of(work.job(), group);
-    let mut left = [0; 8];
-    for i in 0..at.count {
-        left[i] = work.next(at.from + i, rs[i], state, action);
+    if at.count == 0 {
+        return [0; 8];
     }
-    left
+    next_in(work, at, rs, state, action)
 }
 
 // Whether a residual of formula i, constraints before hints, is true of the closing world.

@@ -97,6 +97,13 @@ impl<'q, 'w> Work<'q, 'w> {
         Work { query, words }
     }
 
+    // The words back: they are a workspace of the query's job still, so they may be lent for another query of that job.
+    pub fn into_words(self) -> &'w mut [u64]
+        ensures { Kept self.entry.bytes result.now }
+    {
+        self.words
+    }
+
     pub fn query(&self) -> &'q Query<'q>
         ensures { result.now ≡ self.now }
     {

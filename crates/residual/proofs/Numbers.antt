@@ -127,23 +127,24 @@ module _ (v a : ℕ) (s : List ℕ) (under : Bool) (i : ℕ) where
       go (yes l) = l
       go (no g) = absurd (rw (at_the_end v a s at (omega arith)) at h)
 
-  -- a number that was read is there
+  -- a number that was read is there, and below its bound
   pub few_number : (f : ℕ → Formula) (b at : ℕ) → Few (numbered v a s f b at) under i
-      → (at < length s) × (numbered v a s f b at ≡ formula (f (get_or s at 0)) (at + 1))
+      → (at < length s) × (get_or s at 0 < b) × (numbered v a s f b at ≡ formula (f (get_or s at 0)) (at + 1))
   unfolding numbered
-  few_number f b at h = go (ltb at (length s)) (ltb (get_or s at 0) b) refl h
+  few_number f b at h = go (ltb at (length s)) (ltb (get_or s at 0) b) refl refl h
     where
-      go : (t u : Bool) → ltb at (length s) ≡ t → Few (choose t (choose u (formula (f (get_or s at 0)) (at + 1)) (wrong at)) (wrong (length s))) under i
-          → (at < length s)
+      go : (t u : Bool) → ltb at (length s) ≡ t → ltb (get_or s at 0) b ≡ u
+          → Few (choose t (choose u (formula (f (get_or s at 0)) (at + 1)) (wrong at)) (wrong (length s))) under i
+          → (at < length s) × (get_or s at 0 < b)
           × (choose t (choose u (formula (f (get_or s at 0)) (at + 1)) (wrong at)) (wrong (length s)) ≡ formula (f (get_or s at 0)) (at + 1))
-      go false u e h = absurd h
-      go true false e h = absurd h
-      go true true e h = (ltb-true at (length s) e, refl)
+      go false u e d h = absurd h
+      go true false e d h = absurd h
+      go true true e d h = (ltb-true at (length s) e, ltb-true (get_or s at 0) b d, refl)
 
   -- a fact and an action have no number inside
   numbered_le : (f : ℕ → Formula) → ((n : ℕ) → behind (f n) under i ≡ starts under false i) → (b at : ℕ)
       → Few (numbered v a s f b at) under i → starts under false i ≤ most_parts
-  numbered_le f e b at h = omega (arith, e (get_or s at 0), (rw (few_number f b at h).1 at h).0)
+  numbered_le f e b at h = omega (arith, e (get_or s at 0), (rw (few_number f b at h).2 at h).0)
 
   -- the first number inside a formula is at most the most parts that there may be
   pub inner_le : (c : Code) (rec : ℕ → Parsed) → Grows rec → (at : ℕ) → Few (operands v a s c rec at) under i

@@ -15,7 +15,8 @@ fn is_due(job: &Job, t: &Table, i: usize, key: Key) -> bool
     requires { i < length t.now.slots }
     ensures { result ≡ due job.now (key_is key) (slot_in t.now.slots i) }
 {
-    t.is_goal(i) && t.key(i) == key && !slot_cut(job, t, i)
+    let slots = t.in_use();
+    slots.is_goal(i) && slots.key(i) == key && !slot_cut(job, t, i)
 }
 
 // Of the slot i, if it is due, and the one found after it, the one whose path comes first.
@@ -28,7 +29,7 @@ fn choose(job: &Job, t: &Table, found: Option<usize>, i: usize, key: Key) -> Opt
         return found;
     }
     match found {
-        Some(b) if paths::before(t, b, i) => Some(b),
+        Some(b) if paths::before(&t.in_use(), b, i) => Some(b),
         _ => Some(i),
     }
 }
@@ -52,7 +53,7 @@ pub fn slot_cut(job: &Job, t: &Table, i: usize) -> bool
     requires { i < length t.now.slots }
     ensures { result ≡ slot_cut job.now (slot_in t.now.slots i) }
 {
-    nodes::is_cut(job, t.load(i).hints)
+    nodes::is_cut(job, t.in_use().load(i).hints)
 }
 
 // Whether any slot is cut.

@@ -18,10 +18,11 @@ fn hand_over(t: &Table, g: usize, plan: &mut [u8]) -> Result<Planned, Refusal>
     ensures { HandsOver (slot_in t.now.slots g).key.cost (slot_path t.now.slots (steps_at t.now.slots g) g)
         plan.old result plan.new }
 {
-    let key = t.key(g);
+    let slots = t.in_use();
+    let key = slots.key(g);
     let steps = key.steps as usize;
     model::unless(steps <= plan.len(), Reason::BufferTooShort, steps)?;
-    paths::write(t, g, plan);
+    paths::write(&slots, g, plan);
     Ok(Planned {
         cost: key.cost,
         steps,

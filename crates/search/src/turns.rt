@@ -48,7 +48,7 @@ fn turn_at(work: &mut Work, t: &mut Table, i: usize) -> Turn
     requires { Idle work.old t.old × Least work.old t.old i }
     ensures { Turned work.old t.old t.new result × (work.new ≡ work.old) }
 {
-    let key = t.rank(i);
+    let key = t.in_use().rank(i);
     if let Some(g) = goals::first_goal(work.job(), t, key) {
         return Ok(Some(g));
     }
@@ -61,7 +61,7 @@ fn turn(work: &mut Work, t: &mut Table) -> Turn
     requires { Idle work.old t.old }
     ensures { Turned work.old t.old t.new result × (work.new ≡ work.old) }
 {
-    match t.least() {
+    match t.in_use().least() {
         Some(i) => turn_at(work, t, i),
         None => Err(no_plan(work.job(), t)),
     }

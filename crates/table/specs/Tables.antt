@@ -1,6 +1,6 @@
 -- A table as a search sees it: the slots in use, and how many there is room for.
-use Rattle.std.specs.Prelude.{◌≡◌, List, [], ◌∷◌, ◌++◌, ℕ, ◌≤◌, set, take}
-use Rattle.model.specs.calls.Search.{slots_in}
+use Rattle.std.specs.Prelude.{◌≡◌, List, [], ◌∷◌, ◌++◌, ℕ, ◌*◌, ◌≤◌, length, set, take}
+use Rattle.model.specs.calls.Search.{slots_in, slot_bytes}
 use Rattle.table.specs.declared.Slot.{Slot}
 use Rattle.table.specs.Slots.{slots, slot_in, taken_slot}
 
@@ -27,6 +27,10 @@ marked t i = stored t i (taken_slot (slot_in t.slots i))
 -- the table whose first so many slots in lent bytes are in use
 abbrev pub table_in : ℕ → ℕ → List ℕ → Table
 table_in room used bytes = table room (take used (slots bytes))
+
+-- The bytes have k slots or more.
+pub record Front (k : ℕ) (bytes : List ℕ) : Type 0 where
+  pub whole : k * slot_bytes ≤ length bytes
 
 -- There is room for n slots, the whole ones of the bytes, at most 65,536; and the k in use are no more.
 pub record Within (n k : ℕ) (bytes : List ℕ) : Type 0 where

@@ -1,7 +1,7 @@
 // A table of slots in bytes that a caller lends. Every operation is an equation on the list of its slots.
 #![tactic(auto)]
 
-ghost use Rattle.std.specs.Prelude.{◌≡◌, [], ◌≤◌, ◌<◌, length};
+ghost use Rattle.std.specs.Prelude.{◌≡◌, [], ◌≤◌, ◌<◌, length, take};
 ghost use Rattle.model.specs.calls.Search.{slots_in};
 
 use model::NODE;
@@ -11,8 +11,9 @@ use task::Key;
 mod cells; // cells.rt: words of 64 bits, and rows of them
 mod rows; // rows.rt: a slot as a row
 pub mod slots; // slots.rt: whole slots and their parts, in bytes
-mod lookup; // lookup.rt: the slot of a node, and the open slot of the least rank
+mod lookup; // lookup.rt: the slots in use, to read
 
+pub use lookup::InUse;
 pub use slots::clear;
 
 // What a slot holds: a node, the state and then the residual of each constraint; the residuals of the hints; the key of the least path so
@@ -32,7 +33,7 @@ pub struct Slot {
 }
 
 // The bytes, how many slots they have room for, and how many are in use. A clause sees the room and the list of the slots in use.
-// That a slot is in use is asked as a slice asks of an index.
+// A slot is read by `in_use`. That a slot is in use is asked as a slice asks of an index.
 #[derive(Drop)]
 pub struct Table<'a> {
     bytes: &'a mut [u8],
@@ -53,19 +54,23 @@ impl<'a> Model for Table<'a> {
 
 #[tactic(auto, using(crate::proofs::TableLaws::in_table))]
 impl<'a> Table<'a> {
-    ghost use Rattle.table.specs.Slots.{slot_in, Narrow};
+    ghost use Rattle.table.specs.Slots.{slots, Narrow};
     ghost use Rattle.table.specs.Tables.{table, pushed, stored, marked};
 
     // A table in lent bytes, whatever they are, with no slot in use.
     pub fn new(bytes: &'a mut [u8]) -> Table<'a>
         ensures { result ≡ table (slots_in bytes.old) [] }
     {
+        Table::kept(bytes, 0)
+    }
+
+    // A table in bytes whose first so many slots are in use.
+    pub fn kept(bytes: &'a mut [u8], used: usize) -> Table<'a>
+        requires { used ≤ slots_in bytes.now }
+        ensures { result ≡ table (slots_in bytes.old) (take used (slots bytes.old)) }
+    {
         let room = slots::capacity(bytes);
-        Table {
-            bytes,
-            room,
-            used: 0,
-        }
+        Table { bytes, room, used }
     }
 
     // How many slots there is room for.
@@ -82,12 +87,11 @@ impl<'a> Table<'a> {
         self.used
     }
 
-    // The slot i.
-    pub fn load(&self, i: usize) -> Slot
-        requires { i < length self.now.slots }
-        ensures { (result ≡ slot_in self.now.slots i) × Narrow result }
+    // The slots in use, to read.
+    pub fn in_use(&self) -> InUse<'_>
+        ensures { result ≡ self.now.slots }
     {
-        slots::load(self.bytes, i)
+        InUse::new(self.bytes, self.used)
     }
 
     // One slot more.
@@ -113,45 +117,5 @@ impl<'a> Table<'a> {
         ensures { self.new ≡ marked self.old i }
     {
         slots::mark(self.bytes, i);
-    }
-
-    // The key of the least path so far to the node of the slot i.
-    pub fn key(&self, i: usize) -> Key
-        requires { i < length self.now.slots }
-        ensures { (result ≡ (slot_in self.now.slots i).key) × (result.steps < 65536) }
-    {
-        slots::key(self.bytes, i)
-    }
-
-    // The slot that the slot i came from.
-    pub fn parent(&self, i: usize) -> usize
-        requires { i < length self.now.slots }
-        ensures { result ≡ (slot_in self.now.slots i).parent }
-    {
-        slots::parent(self.bytes, i)
-    }
-
-    // The action that the slot i came by.
-    pub fn action(&self, i: usize) -> u8
-        requires { i < length self.now.slots }
-        ensures { result ≡ (slot_in self.now.slots i).action }
-    {
-        slots::action(self.bytes, i)
-    }
-
-    // Whether the slot i is a goal.
-    pub fn is_goal(&self, i: usize) -> bool
-        requires { i < length self.now.slots }
-        ensures { result ≡ (slot_in self.now.slots i).goal }
-    {
-        slots::is_goal(self.bytes, i)
-    }
-
-    // Whether the slot i was taken.
-    pub fn is_taken(&self, i: usize) -> bool
-        requires { i < length self.now.slots }
-        ensures { result ≡ (slot_in self.now.slots i).taken }
-    {
-        slots::is_taken(self.bytes, i)
     }
 }

@@ -1,6 +1,6 @@
 // Whole slots in bytes and their parts, read and written. A part is read in one line, and has a name, where one function for all would have
 // a word, a divisor and a modulus.
-// Here a promise is about the bytes, and in `Table` about the list in use: one method for both would be proved against both at once.
+// Here a promise is about the bytes, and in `InUse` and `Table` about the list in use: one method for both would be proved against both at once.
 // Each asks only that the bytes of its own slot are there; a type for bytes with such a slot would say no more.
 #![tactic(auto, using(crate::proofs::SlotLaws::in_rows))]
 

@@ -15,13 +15,13 @@ loop-init c =
 pub returns-then-has : goal.returns-then-has
 returns-then-has c = rising_done _ _ _ c.loop.invariant (cc)
 
-pub returns-in_err-gain : goal.returns-in_err-gain
-returns-in_err-gain c = rw c.from_residual.ensures (rising_ends _ _ _ c.loop.invariant (cc) c.in_err-gain.ensures)
+pub returns-in_default : goal.returns-in_default
+returns-in_default c = rising_ends _ _ _ c.loop.invariant (cc) (rw c.in_default.is at c.pass.ensures)
 
 pub loop-preserved : goal.loop-preserved
 loop-preserved c =
     let e : c.action_count-end.result - c.loop.counter ≡ suc (c.action_count-end.result - (c.loop.counter + 1)) = omega arith in
-    rw e at (rising_more _ _ _ c.loop.invariant (cc) (rw (← c.gain.view_is) at c.in_ok-gain.ensures))
+    rw e at (rising_more _ _ _ c.loop.invariant (cc) (rw (c.in-Some.is, ← c.gain.view_is) at c.pass.ensures))
 
-pub returns-in_ok-gain : goal.returns-in_ok-gain
-returns-in_ok-gain c = rising_over _ _ _ (rising_more _ _ _ c.loop.invariant (cc) c.in_ok-gain.ensures) (omega arith)
+pub returns-in-Some : goal.returns-in-Some
+returns-in-Some c = rising_over _ _ _ (rising_more _ _ _ c.loop.invariant (cc) (rw c.in-Some.is at c.pass.ensures)) (omega arith)

@@ -8,10 +8,10 @@ use Rattle.expansion.proofs.arrive.Goals as goal
 use Rattle.expansion.proofs.arrive.Goals.{In-Some-estimate_of}
 
 pub relax-requires : goal.relax-requires
-relax-requires c = (c.requires.0, found_inside c.requires.0 c.requires.1 c.find.ensures c.in-Some.is)
+relax-requires c = (c.requires.0, found_inside c.requires.0 c.requires.1 (rw c.in_use.ensures at c.find.ensures) c.in-Some.is)
 
 pub returns-in-Some : goal.returns-in-Some
-returns-in-Some c = (grew_relaxed c.requires.0 c.requires.1 c.find.ensures c.in-Some.is c.relax.ensures.0, c.relax.ensures.1)
+returns-in-Some c = (grew_relaxed c.requires.0 c.requires.1 (rw c.in_use.ensures at c.find.ensures) c.in-Some.is c.relax.ensures.0, c.relax.ensures.1)
 
 pub returns-in_default-estimate_of : goal.returns-in_default-estimate_of
 returns-in_default-estimate_of c = (
@@ -26,7 +26,7 @@ has_estimate c = cost_estimated c.args.work.now c.args.x.now.node (rw c.query.en
 
 pub returns-then-len-room : goal.returns-then-len-room
 returns-then-len-room c = (
-  grew_full c.requires.0 c.requires.1 c.find.ensures c.in_default.is (has_estimate (goal.at.returns-then-len-room c).In-Some-estimate_of)
+  grew_full c.requires.0 c.requires.1 (rw c.in_use.ensures at c.find.ensures) c.in_default.is (has_estimate (goal.at.returns-then-len-room c).In-Some-estimate_of)
       (omega arith) refl,
   refl,
 )
@@ -41,7 +41,7 @@ fresh-s-requires c = (
 
 pub returns : goal.returns
 returns c = (
-  grew_new c.requires.0 c.requires.1 c.find.ensures c.in_default.is (has_estimate (goal.at.returns c).In-Some-estimate_of) c.push.ensures
+  grew_new c.requires.0 c.requires.1 (rw c.in_use.ensures at c.find.ensures) c.in_default.is (has_estimate (goal.at.returns c).In-Some-estimate_of) c.push.ensures
       c.fresh-s.ensures.0 (omega arith),
   c.fresh-s.ensures.1,
 )

@@ -14,7 +14,7 @@ use Rattle.expansion.proofs.expand.Goals as goal
 use Rattle.expansion.proofs.expand.Goals.{In-loop-a, then-bit_at+in_ok-follow, else-bit_at}
 
 pub loop-a-init : goal.loop-a-init
-loop-a-init c = record { going = going_start c.requires c.load-from.ensures.0; same_work = refl }
+loop-a-init c = record { going = going_start c.requires (rw c.in_use.ensures at c.load-from.ensures.0); same_work = refl }
 
 -- ---- an action of the loop
 
@@ -47,7 +47,7 @@ follow-requires c =
 
 pub returns-in_err-follow : goal.returns-in_err-follow
 returns-in_err-follow c = (
-  going_full c.loop-a.invariant.going (below (goal.at.returns-in_err-follow c).In-loop-a) c.load-from.ensures.0 c.in_err-follow.was
+  going_full c.loop-a.invariant.going (below (goal.at.returns-in_err-follow c).In-loop-a) (rw c.in_use.ensures at c.load-from.ensures.0) c.in_err-follow.was
       c.from_residual.ensures.0 (rw c.loop-a.invariant.same_work at c.follow.ensures.0),
   c.follow.ensures.1 ∙ c.loop-a.invariant.same_work,
 )
@@ -65,6 +65,6 @@ loop-a-preserved c =
 
 pub returns : goal.returns
 returns c = (
-  going_end c.loop-a.invariant.going c.load-from.ensures.0 (omega (arith, rw c.job.ensures at c.action_count-a-end.ensures.count.0)),
+  going_end c.loop-a.invariant.going (rw c.in_use.ensures at c.load-from.ensures.0) (omega (arith, rw c.job.ensures at c.action_count-a-end.ensures.count.0)),
   c.loop-a.invariant.same_work,
 )

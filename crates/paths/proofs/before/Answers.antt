@@ -5,10 +5,10 @@ use Rattle.paths.proofs.before.Goals as goal
 use Rattle.paths.proofs.before.Goals.{In-loop-p}
 
 -- The parents, different, are to be compared in place of the slots.
-risen : (c : In-loop-p) → Instead c.args.t.now.slots c.loop-p.i c.loop-p.j c.loop-p.p c.loop-p.q
+risen : (c : In-loop-p) → Instead c.args.t.now c.loop-p.i c.loop-p.j c.loop-p.p c.loop-p.q
 risen c =
     let l = c.loop-p in
-    order_up c.args.t.now.slots c.requires.0 l.i l.j l.p l.q l.invariant.p_is l.invariant.q_is c.loop-p-test.true l.invariant.level
+    order_up c.args.t.now c.requires.0 l.i l.j l.p l.q l.invariant.p_is l.invariant.q_is c.loop-p-test.true l.invariant.level
 
 pub parent-p-requires-in-loop-p : goal.parent-p-requires-in-loop-p
 parent-p-requires-in-loop-p c = (risen c).level.first
@@ -27,6 +27,6 @@ loop-p-preserved c =
 pub returns : goal.returns
 returns c =
     let l = c.loop-p in
-    order_action c.args.t.now.slots c.requires.0 l.i l.j l.invariant.level _ _ l.p l.q c.action.ensures c.action-2.ensures l.invariant.p_is l.invariant.q_is
+    order_action c.args.t.now c.requires.0 l.i l.j l.invariant.level _ _ l.p l.q c.action.ensures c.action-2.ensures l.invariant.p_is l.invariant.q_is
     c.loop-p-test.false
     ∙ sym l.invariant.same

@@ -4,7 +4,7 @@ use Rattle.paths.proofs.ChainLaws.{order_same, order_other}
 use Rattle.paths.proofs.comes_first.Goals as goal
 
 pub returns-then-i-j : goal.returns-then-i-j
-returns-then-i-j c = order_same c.args.t.now.slots c.args.i c.args.j c.args.a c.args.b c.if-i-j.true
+returns-then-i-j c = order_same c.args.t.now c.args.i c.args.j c.args.a c.args.b c.if-i-j.true
 
 pub returns : goal.returns
 returns c =

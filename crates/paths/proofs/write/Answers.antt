@@ -6,7 +6,7 @@ use Rattle.paths.proofs.write.Goals as goal
 
 pub loop-k-preserved : goal.loop-k-preserved
 loop-k-preserved c =
-    let s = c.args.t.now.slots in
+    let s = c.args.t.now in
     let l = c.loop-k in
     let e : l.k ≡ suc (l.k - 1) = omega arith in
     let u = c.requires.0.inside l.at (l.k - 1) (l.invariant.steps ∙ e) l.invariant.inside in
@@ -20,4 +20,4 @@ loop-k-preserved c =
 pub returns : goal.returns
 returns c =
     let l = c.loop-k in
-    sym (write_end c.args.t.now.slots l.plan l.at l.k (omega arith)) ∙ l.invariant.rest
+    sym (write_end c.args.t.now l.plan l.at l.k (omega arith)) ∙ l.invariant.rest

@@ -5,8 +5,8 @@ use Rattle.paths.proofs.write.Given as goal
 
 abbrev pub invariant-loop-k : goal.invariant-loop-k
 invariant-loop-k l = record {
-  rest : slot_path l.t.slots l.k l.at ++ drop l.k l.plan ≡ slot_path l.t.slots (steps_at l.t.slots l.i) l.i ++ drop (steps_at l.t.slots l.i) l.initial.plan;
-  steps : steps_at l.t.slots l.at ≡ l.k;
-  inside : l.at < length l.t.slots;
+  rest : slot_path l.t l.k l.at ++ drop l.k l.plan ≡ slot_path l.t (steps_at l.t l.i) l.i ++ drop (steps_at l.t l.i) l.initial.plan;
+  steps : steps_at l.t l.at ≡ l.k;
+  inside : l.at < length l.t;
   fits : l.k ≤ length l.initial.plan;
 }

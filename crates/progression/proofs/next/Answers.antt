@@ -1,20 +1,13 @@
--- `next` fills one element a turn with what the residual leaves.
-use Rattle.std.proofs.Common.{◌∙◌, refl, arith}
+-- `next` hands a group's sections on, unless there are none.
+use Rattle.std.proofs.Common.{refl, arith}
 use Rattle.progression.proofs.Lent.{few_sections}
-use Rattle.progression.proofs.Rows.{nothing_next, next_more}
+use Rattle.progression.proofs.Rows.{none_next}
 use Rattle.progression.proofs.next.Goals as goal
 
-pub loop-i-init : goal.loop-i-init
-loop-i-init c = record { same = refl; filled = nothing_next _ _ _ }
+pub returns-then-at-eq0 : goal.returns-then-at-eq0
+returns-then-at-eq0 c = (none_next _ (rw c.job.ensures at c.sections_of-at.ensures) c.if-at-eq0.true _ _, refl)
 
-pub overflow_add-at : goal.overflow_add-at
-overflow_add-at c = omega (arith, few_sections _ c.sections_of-at.ensures.accepted)
-
-pub loop-i-preserved : goal.loop-i-preserved
-loop-i-preserved c =
-    let l = c.loop-i in
-    let e = l.invariant.same in
-    record {
-      same = c.next.ensures.1 ∙ e;
-      filled = next_more _ _ _ _ l.i _ _ l.invariant.filled (rw e at c.next.ensures.0) (omega arith) (omega arith);
-    }
+pub next_in-requires : goal.next_in-requires
+next_in-requires c =
+    let s = rw c.job.ensures at c.sections_of-at.ensures in
+    (s.starts, s.ends, omega (arith, s.ends, few_sections _ s.accepted), s.few, c.requires)

@@ -44,7 +44,7 @@ number : (s : List ℕ) (at : ℕ) (under : Bool) (n : ℕ) (f : ℕ → Formula
     → Few (numbered 64 64 s f 64 (at + 1)) under n → Number s at f
 number s at under n f e h =
     let d = few_number 64 64 s under n f 64 (at + 1) h in
-    record { inside = d.0; low = (rw d.1 at h).1; is = e ∙ d.1 }
+    record { inside = d.0; low = (rw d.2 at h).1; is = e ∙ d.2 }
 
 fact_number : {s : List ℕ} {at : ℕ} {under : Bool} {n : ℕ} → Found s at under n Fact → Number s at fact
 unfolding operands

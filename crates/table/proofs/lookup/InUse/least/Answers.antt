@@ -3,15 +3,15 @@ use Rattle.std.proofs.Common.{rules, arith, ◌≡◌, ◌∙◌, ap, refl, ◌-
 use Rattle.table.specs.Lookup.{slot_of_best}
 use Rattle.table.proofs.TableLaws.{length_is}
 use Rattle.table.proofs.LookupLaws.{least_none, least_more}
-use Rattle.table.proofs.Table.least.Goals as goal
+use Rattle.table.proofs.lookup.InUse.least.Goals as goal
 
 pub loop-i-init : goal.loop-i-init
-loop-i-init c = least_none c.args.self.now.slots _ (omega (arith, length_is c.self.invariant c.self.view_is))
+loop-i-init c = least_none c.args.self.now _ (omega (arith, length_is c.self.invariant c.self.view_is))
 
 pub loop-i-preserved : goal.loop-i-preserved
 loop-i-preserved c =
     let l = c.loop-i in
-    least_more c.args.self.now.slots (l.i - 1) l.i _ _ _ l.invariant c.choose-best.ensures (omega arith) refl
+    least_more c.args.self.now (l.i - 1) l.i _ _ _ l.invariant c.choose-best.ensures (omega arith) refl
     (omega (arith, length_is c.self.invariant c.self.view_is))
 
 pub returns : goal.returns

@@ -2,7 +2,7 @@
 use Rattle.std.proofs.Common.{◌≡◌, take, Some}
 use Rattle.model.specs.search.Node.{progressed_all}
 use Rattle.progression.specs.Padded.{padded, formulas_from}
-use Rattle.progression.proofs.next.Given as goal
+use Rattle.progression.proofs.next_in.Given as goal
 
 abbrev pub invariant-loop-i : goal.invariant-loop-i
 invariant-loop-i l = record {

@@ -3,7 +3,7 @@ use Rattle.std.proofs.Common.{rules, arith}
 use Rattle.std.proofs.lemmas.Iterator.{serves_from_Range, first_from_Range}
 use Rattle.table.proofs.TableLaws.{length_is}
 use Rattle.table.proofs.LookupLaws.{Here, Other, find_first}
-use Rattle.table.proofs.Table.find.Goals as goal
+use Rattle.table.proofs.lookup.InUse.find.Goals as goal
 
 pub find-requires-clause-callable : goal.find-requires-clause-callable
 find-requires-clause-callable c =
@@ -13,6 +13,6 @@ find-requires-clause-callable c =
 pub returns : goal.returns
 returns c =
     let a = c.args in
-    let ss = c.args.self.now.slots in
+    let ss = c.args.self.now in
     find_first a.node ss _ _ (length_is c.self.invariant c.self.view_is)
     (first_from_Range _ _ _ _ (Here a.node ss) (Other a.node ss) c.find.ensures.ran (λ x q k. search rules) (λ x q k. search rules))

@@ -6,10 +6,10 @@ use Rattle.task.proofs.KeyLaws.{lt_is_less}
 use Rattle.table.specs.declared.lookup.Candidate.{Candidate}
 use Rattle.table.specs.Slots.{slot_in}
 use Rattle.table.proofs.LookupLaws.{better_taken, better_first, better_behind, better_here}
-use Rattle.table.proofs.Table.choose.Goals as goal
-use Rattle.table.proofs.Table.choose.Goals.{After-rank-rank, After-lt}
+use Rattle.table.proofs.lookup.InUse.choose.Goals as goal
+use Rattle.table.proofs.lookup.InUse.choose.Goals.{After-rank-rank, After-lt}
 
-is_open : (c : After-rank-rank) → false ≡ (slot_in c.args.self.now.slots c.args.i).taken
+is_open : (c : After-rank-rank) → false ≡ (slot_in c.args.self.now c.args.i).taken
 is_open c = sym c.if-is_taken.false ∙ c.is_taken.ensures
 
 is_less : (c : After-lt) → c.lt.result ≡ less (key_is c.in-Some.b.rank) (key_is c.rank-rank.result)
