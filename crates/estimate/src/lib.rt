@@ -34,8 +34,8 @@ impl Model for Gain {
     ghost inverse = { λ g. record { level = g.level; adds = g.adds } };
 }
 
-// The end of action i at a level: as it was, or its cost after the level where its needed facts are built and were not before. Only a new end is written, since
-// most are known. The values that this function and the next one share stay apart: a struct of them would be built anew for each action.
+// The end of action i at a level: as it was, or its cost after the level where its needed facts are built and were not before. Only a new end is written,
+// since most are known. The values that this function and the next one share stay apart: a struct of them would be built anew for each action.
 #[tactic(auto, using(job::proofs::Accepted::action_of_lem, crate::proofs::PassLaws::same_end), unfolding(model::specs::search::Estimate::end_of))]
 fn end_of(
     job: &Job,
@@ -117,7 +117,7 @@ pub fn estimate(q: &Query, facts: u64) -> Option<u64>
         if state.has(goal) {
             return Some(level);
         }
-        // Written out in place of `?`, so that an edit can answer 0 here.
+        // Written out in place of `?`, so that the edit `unbuilt_at_zero` can answer 0 here (docs/MUST-FAIL.md).
         let Some(gain) = pass(q, built, level, &mut ends) else {
             return None;
         };

@@ -131,7 +131,7 @@ impl Refusal {
         }
     }
 
-    // A refusal of any number, as one that is told by a program may have it.
+    // A refusal of any number, for who got it as numbers.
     pub fn numbered(number: u8, place: usize) -> Refusal
         ensures { result ≡ refusal number place }
     {

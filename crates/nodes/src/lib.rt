@@ -108,7 +108,8 @@ fn residuals_of(node: [u64; NODE]) -> [u64; 8]
 fn unless_dead(job: &Job, facts: u64, rs: [u64; 8]) -> Option<[u64; NODE]>
     ensures { Made (constraint_count job.now) facts rs result }
 {
-    if progression::some_dead(rs, job.constraint_count()) {
+    let count = job.constraint_count();
+    if progression::some_dead(rs, count) {
         return None;
     }
     Some(node_of(facts, rs))
@@ -184,5 +185,6 @@ pub fn next_hints(work: &mut Work, hints: [u64; 8], node: [u64; NODE], i: u8) ->
 pub fn is_cut(job: &Job, hints: [u64; 8]) -> bool
     ensures { result ≡ some_dead (hints_is (hint_count job.now) hints) }
 {
-    progression::some_dead(hints, job.hint_count())
+    let count = job.hint_count();
+    progression::some_dead(hints, count)
 }

@@ -39,7 +39,7 @@ fn put(out: &mut [u8], to: usize, h: Head) -> usize
     }
 }
 
-// The number of bytes.
+// The number of bytes of a heading.
 fn count(h: Head) -> usize
     ensures { (result ≡ length (bytes_in h)) × (result ≤ 3) }
 {

@@ -97,11 +97,12 @@ order_up ss ch i j p q ep eq d v =
 -- ---- a path written from its end
 
 -- Storing the last action leaves one action less to write before what stands after it.
-pub write_on : (ss : List Slot) (plan : List ℕ) (i k m a p : ℕ) → k ≡ suc m → a ≡ action_at ss i → p ≡ parent_at ss i → m < length plan
-    → slot_path ss k i ++ drop k plan ≡ slot_path ss m p ++ drop m (set plan m a)
+-- The index n need only equal m, so that code which computes the index in another way is answered as well.
+pub write_on : (ss : List Slot) (plan : List ℕ) (i k m n a p : ℕ) → k ≡ suc m → n ≡ m → a ≡ action_at ss i → p ≡ parent_at ss i → m < length plan
+    → slot_path ss k i ++ drop k plan ≡ slot_path ss m p ++ drop m (set plan n a)
 unfolding slot_path
-write_on ss plan i k m a p d ea ep h =
-    rw (d, ← ea, ← ep, append_assoc, drop-cons (set plan m a) m 0 (lt-length-set plan m a h), get_or-set_same plan m a 0 h)
+write_on ss plan i k m n a p d en ea ep h =
+    rw (d, en, ← ea, ← ep, append_assoc, drop-cons (set plan m a) m 0 (lt-length-set plan m a h), get_or-set_same plan m a 0 h)
     (rw (drop-set-lt (suc m) plan m a (omega arith)))
 
 -- When none is left, the plan is written.

@@ -74,8 +74,9 @@ pub fn pays(job: &Job, worlds: usize) -> bool
     bytes != 0 && 4096 / bytes <= worlds
 }
 
-// What the residuals of the formulas in sections leave after a world. A residual, a state and an action stay three values, here and below: the residual differs
-// at each call, and a struct would be built in one function and opened in the next. It stays a call of its own, so that `next` is no more than a test.
+// What the residuals of the formulas in sections leave after a world. A residual, a state and an action stay three values, here and below: the residual
+// differs at each call, and a struct would be built in one function and opened in the next. It stays a call of its own, so that `next` is no more than a
+// test.
 #[inline(never)]
 fn next_in(work: &mut Work, at: Sections, rs: [u64; 8], state: u64, action: u8) -> [u64; 8]
     requires { (1 ≤ at.from) × (at.from + at.count ≤ pair_count work.old.bytes) × (at.from + at.count ≤ 17) × (at.count ≤ 8) × (action < 64) }

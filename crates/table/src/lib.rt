@@ -64,13 +64,20 @@ impl<'a> Table<'a> {
         Table::kept(bytes, 0)
     }
 
-    // A table in bytes whose first so many slots are in use.
+    // A table in bytes whose first `used` slots are in use. Who wants room for fewer slots than the bytes have lends fewer bytes.
     pub fn kept(bytes: &'a mut [u8], used: usize) -> Table<'a>
         requires { used ≤ slots_in bytes.now }
         ensures { result ≡ table (slots_in bytes.old) (take used (slots bytes.old)) }
     {
         let room = slots::capacity(bytes);
         Table { bytes, room, used }
+    }
+
+    // The bytes back: their first slots are those in use.
+    pub fn into_bytes(self) -> &'a mut [u8]
+        ensures { table (slots_in result.now) (take (length self.entry.slots) (slots result.now)) ≡ self.entry }
+    {
+        self.bytes
     }
 
     // How many slots there is room for.

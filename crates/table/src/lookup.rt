@@ -4,8 +4,8 @@ use model::NODE;
 use std::marker::Model;
 use task::Key;
 
-// The bytes, which may hold more, and how many of their first slots are in use. A clause sees the list of these. That a slot is one of them is asked as a slice
-// asks of an index.
+// The bytes, which may hold more, and how many of their first slots are in use. A clause sees the list of these. That a slot is one of them is asked
+// as a slice asks of an index.
 #[derive(Clone, Drop)]
 pub struct InUse<'a> {
     bytes: &'a [u8],
@@ -41,7 +41,7 @@ impl<'a> InUse<'a> {
     ghost use Rattle.table.specs.Lookup.{find_in, rank_at, better, least_in, slot_of_best};
     ghost use Rattle.task.specs.Meaning.{key_is};
 
-    // The first so many slots of lent bytes, which have them all.
+    // The first `used` slots of lent bytes, which hold that many.
     pub fn new(bytes: &'a [u8], used: usize) -> InUse<'a>
         requires { used * slot_bytes ≤ length bytes.now }
         ensures { result ≡ take used (slots bytes.now) }

@@ -13,7 +13,8 @@ use task::State;
 fn check_constraints(job: &Job, w: &Walk) -> Verdict
     ensures { result ≡ in_turn (constraint_count job.now) (λ i. unless (closed_at (job_of job.now).constraints w.now.constraints w.now.facts i) 9 i) }
 {
-    for i in 0..job.constraint_count() {
+    let count = job.constraint_count();
+    for i in 0..count {
         let met = progression::closes(job, i, w.constraints[i], w.facts);
         unless(met, Reason::RuleNotMet, i)?;
     }

@@ -1,12 +1,12 @@
 -- What the library reads from eight bytes and writes to them, of which the first n are a number's.
-use Rattle.std.proofs.Common.{◌≡◌, refl, ◌∙◌, ℕ, zero, suc, ◌+◌, ◌-◌, ◌*◌, ◌/◌, ◌%◌, ◌^◌, ◌≤◌, ◌<◌, List, [], ◌∷◌, ◌++◌, length, get_or, take, drop}
+use Rattle.std.proofs.Common.{◌≡◌, refl, ◌∙◌, ℕ, zero, suc, ◌+◌, ◌-◌, ◌*◌, ◌/◌, ◌%◌, ◌^◌, ◌≤◌, ◌<◌, List, [], ◌∷◌, ◌++◌, length, get_or, set, take, drop}
 use Rattle.std.proofs.Common.{ap, arith, replicate, pow-suc, append_assoc, length-take-le, drop-drop, w8, w64, Fits}
-use Rattle.std.proofs.lemmas.List.{drop-replicate, length-replicate, length-append, length-drop, get_or-drop}
+use Rattle.std.proofs.lemmas.List.{set-get_or, drop-replicate, length-replicate, length-append, length-drop, get_or-drop}
 use Rattle.std.proofs.lemmas.List.Edits.{sets, sets-eq}
 use Rattle.std.specs.Int.{from_le_bytes, to_le_bytes}
 use borrow.Rule.Slice.PartMut.{put_mid}
 use Rattle.model.specs.Bits.{number, number_at}
-use Rattle.words.specs.Digits.{digits, eight}
+use Rattle.words.specs.Digits.{digits, eight, front}
 use Rattle.words.specs.Laws.{eight_bytes, length_digits}
 
 -- ---- reading
@@ -32,22 +32,29 @@ number_small zero l small = omega arith
 number_small (suc n) [] small = omega (arith, pow-suc 256 n, number_small n [] small)
 number_small (suc n) (b ∷ l) small = omega (arith, pow-suc 256 n, small 0, number_small n l (λ i. small (suc i)))
 
+-- A byte set to what it is.
+pub same_byte : (l : List ℕ) (i : ℕ) → set l i (get_or l i 0) ≡ l
+same_byte l i = set-get_or l i 0
+
+-- Put before zeros, the n bytes are the front.
+pub front_is : (n at : ℕ) (l : List ℕ) {ys : List ℕ} → ys ≡ take (at + n - at) (drop at l) → put_mid 0 n (replicate 8 0) ys ≡ front n l at
+front_is n at l {ys} e =
+    let width : at + n - at ≡ n = omega arith in
+    let bytes : ys ≡ take n (drop at l) = rw width at e in
+    rw (drop-replicate {X = ℕ} n 8 0, bytes) refl
+
 module _ (n at : ℕ) (l : List ℕ) (h : at + n ≤ length l) (k : n ≤ 8) where
-  number_read : {x : ℕ} {ys : List ℕ} → ys ≡ take (at + n - at) (drop at l) → x ≡ from_le_bytes w64 (put_mid 0 n (replicate 8 0) ys) → x ≡ number_at n l at
+  number_read : {x : ℕ} {zs : List ℕ} → zs ≡ front n l at → x ≡ from_le_bytes w64 zs → x ≡ number_at n l at
   unfolding number_at
-  number_read {x} {ys} e f =
-      let width : at + n - at ≡ n = omega arith in
-      let bytes : ys ≡ take n (drop at l) = rw width at e in
+  number_read shape f =
       let long : n ≤ length (drop at l) = omega (arith, length-drop at l) in
       let zs : List ℕ = take n (drop at l) ++ replicate (8 - n) 0 in
-      let shape : put_mid 0 n (replicate 8 0) ys ≡ zs = rw (drop-replicate {X = ℕ} n 8 0, bytes) refl in
       let all : length zs ≡ 8 =
       omega (arith, length-append (take n (drop at l)) (replicate (8 - n) 0), length-take-le n (drop at l) long, length-replicate {A = ℕ} (8 - n) 0) in
       let sum : from_le_bytes w64 zs ≡ eight zs 0 = omega arith in
       f ∙ ap (from_le_bytes w64) shape ∙ sum ∙ eight_bytes 0 zs (omega arith) ∙ number_padded n 8 (drop at l) k long
 
-  pub read : {x : ℕ} {ys : List ℕ} → ys ≡ take (at + n - at) (drop at l) → x ≡ from_le_bytes w64 (put_mid 0 n (replicate 8 0) ys)
-      → ((i : ℕ) → Fits w8 (get_or l i 0)) → (x ≡ number_at n l at) × (x < 256 ^ n)
+  pub read : {x : ℕ} {zs : List ℕ} → zs ≡ front n l at → x ≡ from_le_bytes w64 zs → ((i : ℕ) → Fits w8 (get_or l i 0)) → (x ≡ number_at n l at) × (x < 256 ^ n)
   unfolding number_at
   read e f small =
       let g = number_read e f in

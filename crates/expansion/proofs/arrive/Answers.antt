@@ -26,7 +26,8 @@ has_estimate c = cost_estimated c.args.work.now c.args.x.now.node (rw c.query.en
 
 pub returns-then-len-room : goal.returns-then-len-room
 returns-then-len-room c = (
-  grew_full c.requires.0 c.requires.1 (rw c.in_use.ensures at c.find.ensures) c.in_default.is (has_estimate (goal.at.returns-then-len-room c).In-Some-estimate_of)
+  grew_full c.requires.0 c.requires.1 (rw c.in_use.ensures at c.find.ensures) c.in_default.is
+      (has_estimate (goal.at.returns-then-len-room c).In-Some-estimate_of)
       (omega arith) refl,
   refl,
 )
@@ -41,7 +42,8 @@ fresh-s-requires c = (
 
 pub returns : goal.returns
 returns c = (
-  grew_new c.requires.0 c.requires.1 (rw c.in_use.ensures at c.find.ensures) c.in_default.is (has_estimate (goal.at.returns c).In-Some-estimate_of) c.push.ensures
+  grew_new c.requires.0 c.requires.1 (rw c.in_use.ensures at c.find.ensures) c.in_default.is
+      (has_estimate (goal.at.returns c).In-Some-estimate_of) c.push.ensures
       c.fresh-s.ensures.0 (omega arith),
   c.fresh-s.ensures.1,
 )

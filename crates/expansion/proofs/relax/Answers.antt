@@ -10,7 +10,8 @@ use Rattle.expansion.proofs.relax.Goals as goal
 use Rattle.expansion.proofs.relax.Goals.{After-load-old, After-key_of-key, After-lt, After-eq}
 
 pub returns-then-is_taken : goal.returns-then-is_taken
-returns-then-is_taken c = (relax_taken c.requires.0 c.requires.1 c.args.x.now.node (sym (rw c.in_use-slots.ensures at c.is_taken.ensures) ∙ c.if-is_taken.true), refl)
+returns-then-is_taken c =
+    (relax_taken c.requires.0 c.requires.1 c.args.x.now.node (sym (rw c.in_use-slots.ensures at c.is_taken.ensures) ∙ c.if-is_taken.true), refl)
 
 -- Slot j is open where it was loaded, so the arrival's key fits.
 loaded : (c : After-load-old) → let x = c.args.x.now in Loaded c.args.work.now c.args.t.now x.slot x.from x.action c.args.j c.load-old.result

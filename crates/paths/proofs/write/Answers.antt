@@ -11,7 +11,7 @@ loop-k-preserved c =
     let e : l.k ≡ suc (l.k - 1) = omega arith in
     let u = c.requires.0.inside l.at (l.k - 1) (l.invariant.steps ∙ e) l.invariant.inside in
     record {
-      rest = sym (write_on s l.plan l.at l.k (l.k - 1) _ _ e c.action.ensures c.parent-at.ensures (omega arith)) ∙ l.invariant.rest;
+      rest = sym (write_on s l.plan l.at l.k (l.k - 1) _ _ _ e (omega arith) c.action.ensures c.parent-at.ensures (omega arith)) ∙ l.invariant.rest;
       steps = ap (steps_at s) c.parent-at.ensures ∙ u.1;
       inside = omega (arith, c.parent-at.ensures, u.0);
       fits = omega arith;

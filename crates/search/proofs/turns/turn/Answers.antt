@@ -23,6 +23,7 @@ turn_at-requires c = (
 pub returns-in-None : goal.returns-in-None
 returns-in-None c = (
   nothing_ends c.args.work.now _ _
-      (least_nothing c.args.work.now _ c.requires.1.sound (least_is (goal.at.returns-in-None c).After-least) c.in-None.is) (rw c.job.ensures at c.no_plan.ensures),
+      (least_nothing c.args.work.now _ c.requires.1.sound (least_is (goal.at.returns-in-None c).After-least) c.in-None.is)
+      (rw c.job.ensures at c.no_plan.ensures),
   refl,
 )
